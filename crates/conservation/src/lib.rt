@@ -1,0 +1,1 @@
+// What holds of every list of calls, proved of the definitions of `rules`: specs/ alone, no code.

@@ -1,0 +1,1 @@
+// Functions on tests and lists, and their laws: specs/ alone, no code.

@@ -1,0 +1,1 @@
+// Laws of the rules, for the theorems and for the code: specs/ alone, no code.

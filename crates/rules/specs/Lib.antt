@@ -1,0 +1,12 @@
+pub mod Types
+pub mod Update
+pub mod Helpers
+pub mod EpochProcessing
+pub mod BlockProcessing
+pub mod Acceptance
+pub mod Calls
+pub mod Counting
+pub mod Examples
+pub mod Edges
+pub mod Causes
+pub mod Worked
