@@ -44,6 +44,14 @@ enough-room S r = all
 
 -- ---- one call
 
+-- what it is handed: 1, 3, 2 in this order
+unfoldable pub handed-refusal : Settings → Books → Room → ℕ
+handed-refusal S b r =
+    if not (sound-settings S) then 1
+    else if not (enough-room S r) then 3
+    else if not (sound-books S b) then 2
+    else 0
+
 -- the number of the first of the call's own tests that fails; 0 where none does
 unfoldable pub own-refusal : Settings → Books → Operation → ℕ
 own-refusal S b (reward i amount) = if not (ltb i (count b)) then 10 else 0
@@ -86,10 +94,9 @@ size-refusal S e =
 
 unfoldable pub answer : Settings → Books → Call → ℕ
 answer S b c =
+    let handed = handed-refusal S b (c .room) in
     let own = own-refusal S b (c .operation) in
-    if not (sound-settings S) then 1
-    else if not (enough-room S (c .room)) then 3
-    else if not (sound-books S b) then 2
+    if not (eqb handed 0) then handed
     else if not (eqb own 0) then own
     else size-refusal S (result S b (c .operation))
 

@@ -9,7 +9,7 @@ use Rattle.lists.specs.Base.{if_then_else_}
 use Rattle.lists.specs.Laws.{not-not, passed}
 use Rattle.rules.specs.Types.{Settings, Books}
 use Rattle.rules.specs.Acceptance.{sound-settings, sound-books, within-limits, sums-within, all-epochs-within}
-use Rattle.rules.specs.Calls.{Call, enough-room, own-refusal, result, size-refusal, answer, done}
+use Rattle.rules.specs.Calls.{Call, enough-room, handed-refusal, own-refusal, result, size-refusal, answer, done}
 
 pub record Passed (S : Settings) (b : Books) (c : Call) : Type 0 where
   pub settings : sound-settings S ≡ true
@@ -20,21 +20,23 @@ pub record Passed (S : Settings) (b : Books) (c : Call) : Type 0 where
   pub sums : sums-within (result S b (c .operation)) ≡ true
   pub epochs : all-epochs-within (result S b (c .operation)) ≡ true
 
-own-passed : (n : ℕ) {r : ℕ} → _≡_ {A = ℕ} (if not (eqb n 0) then n else r) 0 → (n ≡ 0) × (r ≡ 0)
+-- two refusals in a row came to 0
+refusal-passed : (n : ℕ) {r : ℕ} → _≡_ {A = ℕ} (if not (eqb n 0) then n else r) 0 → (n ≡ 0) × (r ≡ 0)
 unfolding if_then_else_
-own-passed n {r} e = go (eqb n 0) refl e
+refusal-passed n {r} e = go (eqb n 0) refl e
   where
     go : (t : Bool) → eqb n 0 ≡ t → _≡_ {A = ℕ} (if not t then n else r) 0 → (n ≡ 0) × (r ≡ 0)
     go true q e = (eqb-true n 0 q, e)
     go false q e = absurd (eqb-false n 0 q e)
 
 pub done-passed : (S : Settings) (b : Books) (c : Call) → done S b c ≡ true → Passed S b c
-unfolding done answer size-refusal
+unfolding done answer handed-refusal size-refusal
 done-passed S b c e =
-    let e₁ = passed _ {n = 1} (omega arith) (eqb-true (answer S b c) 0 e) in
+    let h = refusal-passed (handed-refusal S b (c .room)) (eqb-true (answer S b c) 0 e) in
+    let e₁ = passed _ {n = 1} (omega arith) (h .0) in
     let e₃ = passed _ {n = 3} (omega arith) (e₁ .1) in
     let e₂ = passed _ {n = 2} (omega arith) (e₃ .1) in
-    let o = own-passed (own-refusal S b (c .operation)) (e₂ .1) in
+    let o = refusal-passed (own-refusal S b (c .operation)) (h .1) in
     let e₄₀ = passed _ {n = 40} (omega arith) (o .1) in
     let e₄₁ = passed _ {n = 41} (omega arith) (e₄₀ .1) in
     let e₄₂ = passed _ {n = 42} (omega arith) (e₄₁ .1) in

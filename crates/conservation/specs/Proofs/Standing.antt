@@ -11,7 +11,7 @@ use Rattle.rules.specs.Helpers.{count}
 use Rattle.rules.specs.BlockProcessing.{withdrawals-refusal, voluntary-exit-refusal, consolidation-refusal}
 use Rattle.rules.specs.Acceptance.{sound-books}
 use Rattle.rules.specs.Calls as calls
-use Rattle.rules.specs.Calls.{Operation, Call, own-refusal, result, size-refusal, answer, done, after}
+use Rattle.rules.specs.Calls.{Operation, Room, Call, handed-refusal, own-refusal, result, size-refusal, answer, done, after}
 use Rattle.rule_laws.specs.Accepted.{SoundBooks, settings-sound, books-sound, books-sound-so}
 use Rattle.rule_laws.specs.Accepted.{Fits, Sums, Epochs, fits, sums, epochs}
 use Rattle.conservation.specs.Proofs.Answered.{Passed, done-passed}
@@ -100,16 +100,21 @@ own-not-2 S b calls.pending-balance-deposits = omega arith
 own-not-2 S b calls.pending-consolidations = omega arith
 own-not-2 S b calls.effective-balance-updates = omega arith
 
+handed-not-2 : (S : Settings) (b : Books) (r : Room) → sound-books S b ≡ true → Not-2 (handed-refusal S b r)
+unfolding handed-refusal
+handed-not-2 S b r p =
+    by-test Not-2 _ (λ e. omega arith) λ e.
+    by-test Not-2 _ (λ e. omega arith) λ e.
+    by-test Not-2 _ (λ e q. let z : _≡_ {A = ℕ} 0 1 = clash e in omega arith) λ e. omega arith
+  where
+    clash : not (sound-books S b) ≡ true → _≡_ {A = ℕ} 0 1
+    clash e = let r : false ≡ true = rw p at e in cc
+
 pub not-answered-2 : (S : Settings) (b : Books) (c : Call) → sound-books S b ≡ true → answer S b c ≡ 2 → ⊥
 unfolding answer size-refusal
 not-answered-2 S b c p =
-    by-test Not-2 _ (λ e. omega arith) λ e.
-    by-test Not-2 _ (λ e. omega arith) λ e.
-    by-test Not-2 _ (λ e q. let z : _≡_ {A = ℕ} 0 1 = clash e in omega arith) λ e.
+    by-test Not-2 _ (λ e. handed-not-2 S b (c .room) p) λ e.
     by-test Not-2 _ (λ e. own-not-2 S b (c .operation)) λ e.
     by-test Not-2 _ (λ e. omega arith) λ e.
     by-test Not-2 _ (λ e. omega arith) λ e.
     by-test Not-2 _ (λ e. omega arith) λ e. omega arith
-  where
-    clash : not (sound-books S b) ≡ true → _≡_ {A = ℕ} 0 1
-    clash e = let r : false ≡ true = rw p at e in cc
