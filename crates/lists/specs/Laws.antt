@@ -35,6 +35,10 @@ both false t e = (e, impossible e)
 pub join : {s t : Bool} → s ≡ true → t ≡ true → (s && t) ≡ true
 join p q = rw (p, q)
 
+pub and-true : (t : Bool) → (t && true) ≡ t
+and-true true = refl
+and-true false = refl
+
 pub and-false : (s t : Bool) → t ≡ false → (s && t) ≡ false
 and-false true t e = e
 and-false false t e = refl
@@ -107,6 +111,11 @@ module _ {A : Type 0} where
   total-append f [] ys = omega arith
   total-append f (x ∷ xs) ys = omega (arith, total-append f xs ys)
 
+  pub total-drop : (f : A → ℕ) (n : ℕ) (xs : List A) → total f (drop n xs) ≤ total f xs
+  total-drop f zero xs = omega arith
+  total-drop f (suc n) [] = omega arith
+  total-drop f (suc n) (x ∷ xs) = omega (arith, total-drop f n xs)
+
   pub total-map-same : (f : A → ℕ) (g : A → A) (xs : List A)
       → ((x : A) → f (g x) ≡ f x) → total f (map g xs) ≡ total f xs
   total-map-same f g [] h = refl
@@ -118,6 +127,13 @@ module _ {A : Type 0} where
   every-append t (x ∷ xs) ys p q =
       let s = both (t x) (every t xs) p in
       join (s .0) (every-append t xs ys (s .1) q)
+
+  -- one more element decides
+  pub every-append-one : (t : A → Bool) (xs : List A) (x : A) → every t xs ≡ true → every t (xs ++ (x ∷ [])) ≡ t x
+  every-append-one t [] x p = and-true (t x)
+  every-append-one t (y ∷ xs) x p =
+      let s = both (t y) (every t xs) p in
+      rw (s .0) (every-append-one t xs x (s .1))
 
   pub every-adjust : (t : A → Bool) (i : ℕ) (g : A → A) (xs : List A)
       → ((x : A) → t x ≡ true → t (g x) ≡ true) → every t xs ≡ true → every t (adjust i g xs) ≡ true
@@ -151,3 +167,16 @@ module _ {A : Type 0} where
   every-at t i [] d h p = absurd (not-suc-le-zero h)
   every-at t zero (x ∷ xs) d h p = both (t x) (every t xs) p .0
   every-at t (suc i) (x ∷ xs) d h p = every-at t i xs d (le-of-suc-le-suc h) (both (t x) (every t xs) p .1)
+
+  -- one element fails
+  pub every-fails : (t : A → Bool) (i : ℕ) (xs : List A) (d : A)
+      → i < length xs → t (getD xs i d) ≡ false → every t xs ≡ false
+  every-fails t i [] d h p = absurd (not-suc-le-zero h)
+  every-fails t zero (x ∷ xs) d h p = rw p
+  every-fails t (suc i) (x ∷ xs) d h p =
+      and-false (t x) (every t xs) (every-fails t i xs d (le-of-suc-le-suc h) p)
+
+  pub getD-adjust : (i : ℕ) (g : A → A) (xs : List A) (d : A) → i < length xs → getD (adjust i g xs) i d ≡ g (getD xs i d)
+  getD-adjust i g [] d h = absurd (not-suc-le-zero h)
+  getD-adjust zero g (x ∷ xs) d h = refl
+  getD-adjust (suc i) g (x ∷ xs) d h = getD-adjust i g xs d (le-of-suc-le-suc h)

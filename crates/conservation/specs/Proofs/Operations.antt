@@ -48,14 +48,14 @@ abbrev one : ℕ → ℕ → List PendingBalanceDeposit
 one i amount = record { index = i; amount = amount } ∷ []
 
 module _ (S : Settings) (b : Books) where
-  reward-flow : (i amount : ℕ) → i < count b → Flow (takes-in amount []) b (increase-balance i amount b)
+  pub reward-flow : (i amount : ℕ) → i < count b → Flow (takes-in amount []) b (increase-balance i amount b)
   reward-flow i amount h = record {
     sums = omega (arith, total-adjust balance i (increased amount) (b .validators) no-validator h);
     order = sym (append-nil (b .pending-balance-deposits));
     spent = omega arith;
   }
 
-  penalty-flow : (i amount : ℕ)
+  pub penalty-flow : (i amount : ℕ)
       → Flow (takes-out (min amount (at (b .validators) i .balance))) b (decrease-balance i amount b)
   penalty-flow i amount = record {
     sums = omega (arith, decreased-total i amount (b .validators));
@@ -63,7 +63,7 @@ module _ (S : Settings) (b : Books) where
     spent = omega arith;
   }
 
-  withdrawals-flow : (ws : List Withdrawal)
+  pub withdrawals-flow : (ws : List Withdrawal)
       → Flow (takes-out (paid-out ws (b .validators))) b (process-withdrawals S ws b)
   unfolding process-withdrawals
   withdrawals-flow ws = record {
@@ -72,7 +72,7 @@ module _ (S : Settings) (b : Books) where
     spent = omega arith;
   }
 
-  exit-flow : (i : ℕ) → Flow nothing b (initiate-validator-exit S i b)
+  pub exit-flow : (i : ℕ) → Flow nothing b (initiate-validator-exit S i b)
   unfolding initiate-validator-exit
   exit-flow i =
       by-test (λ (e : Books). Flow nothing b e) _
@@ -84,7 +84,7 @@ module _ (S : Settings) (b : Books) where
   partial-flow i amount =
       by-test (λ (e : Books). Flow nothing b e) _ (λ e. quiet b _ refl refl refl) (λ e. still b)
 
-  request-flow : (source-address public-key : List ℕ) (amount : ℕ)
+  pub request-flow : (source-address public-key : List ℕ) (amount : ℕ)
       → Flow nothing b (process-execution-layer-withdrawal-request S source-address public-key amount b)
   unfolding process-execution-layer-withdrawal-request
   request-flow source-address public-key amount =
@@ -98,21 +98,21 @@ module _ (S : Settings) (b : Books) where
       by-test P _ (λ e. still b) λ e.
       by-test P _ (λ e. by-test P _ (λ e. exit-flow i) (λ e. still b)) (λ e. partial-flow i amount)
 
-  consolidation-call-flow : (s t : ℕ) → Flow nothing b (process-consolidation S s t b)
+  pub consolidation-call-flow : (s t : ℕ) → Flow nothing b (process-consolidation S s t b)
   unfolding process-consolidation
   consolidation-call-flow s t =
       quiet b _ (total-adjust-same balance s (with-exit _ _) (b .validators) (λ x. refl)) refl refl
 
   -- ---- receipts
 
-  queue-flow : (i amount : ℕ) → Flow (takes-in amount (one i amount)) b (queue-deposit i amount b)
+  pub queue-flow : (i amount : ℕ) → Flow (takes-in amount (one i amount)) b (queue-deposit i amount b)
   queue-flow i amount = record {
     sums = omega (arith, total-append deposit-amount (b .pending-balance-deposits) (one i amount));
     order = refl;
     spent = omega arith;
   }
 
-  added-flow : (public-key withdrawal-credentials : List ℕ) (amount : ℕ)
+  pub added-flow : (public-key withdrawal-credentials : List ℕ) (amount : ℕ)
       → Flow (takes-in amount (one (count b) amount)) b
       (add-validator-to-registry public-key withdrawal-credentials amount b)
   unfolding add-validator-to-registry
@@ -130,7 +130,7 @@ module _ (S : Settings) (b : Books) where
       }
 
   -- a known key, with or without a switch
-  known-flow : (i amount : ℕ) (t : Bool) → i < count b
+  pub known-flow : (i amount : ℕ) (t : Bool) → i < count b
       → Flow (takes-in amount (record { index = i; amount = amount } ∷ (if t then excess-entry S i b else []))) b
       (if t then switch-to-compounding-validator S i (queue-deposit i amount b) else queue-deposit i amount b)
   unfolding if_then_else_ excess-entry
@@ -150,7 +150,7 @@ module _ (S : Settings) (b : Books) where
       (λ e. choose valid (λ e. added-flow public-key withdrawal-credentials amount) (λ e. still b))
 
 -- the receipt start is no part of what is counted
-receipt-flow : (S : Settings) (b : Books) (public-key withdrawal-credentials : List ℕ) (amount index : ℕ) (valid : Bool)
+pub receipt-flow : (S : Settings) (b : Books) (public-key withdrawal-credentials : List ℕ) (amount index : ℕ) (valid : Bool)
     → Flow (receipt-counts S b public-key withdrawal-credentials amount valid) b
     (process-deposit-receipt S public-key withdrawal-credentials amount index valid b)
 unfolding process-deposit-receipt receipt-counts excess-entry
