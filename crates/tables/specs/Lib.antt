@@ -1,0 +1,4 @@
+pub mod Rows
+pub mod Totals
+pub mod Tests
+pub mod Words

@@ -1,0 +1,1 @@
+// Laws of tables of records: specs/ alone, no code.
