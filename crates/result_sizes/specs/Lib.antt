@@ -4,3 +4,4 @@ pub mod Epoch
 pub mod Exits
 pub mod Block
 pub mod Receipts
+pub mod Answers

@@ -63,7 +63,7 @@ module _ {A : Type 0} where
       (rows-adjust n (λ k. g (suc k)) (λ k. h (suc k)) i f
       (λ j p q. other (suc j) (suc-le-suc p) (omega arith)) (λ p. same (suc-le-suc p)))
 
-  rows-snoc : (n : ℕ) (g : ℕ → A) → rows (suc n) g ≡ rows n g ++ (g n ∷ [])
+  pub rows-snoc : (n : ℕ) (g : ℕ → A) → rows (suc n) g ≡ rows n g ++ (g n ∷ [])
   unfolding rows
   rows-snoc zero g = refl
   rows-snoc (suc n) g = ap (λ l. g 0 ∷ l) (rows-snoc n (λ k. g (suc k)))
@@ -73,6 +73,14 @@ module _ {A : Type 0} where
       → ((j : ℕ) → j < n → h j ≡ g j) → h n ≡ x → rows (n + 1) h ≡ rows n g ++ (x ∷ [])
   rows-push n g h x below here =
       rw add-one (rows-snoc n h ∙ ap₂ (λ l y. l ++ (y ∷ [])) (rows-ext n h g below) here)
+
+  -- a list, element by element
+  pub rows-getD : (xs : List A) (n : ℕ) (d : A) → length xs ≡ n → rows n (λ k. getD xs k d) ≡ xs
+  unfolding rows
+  rows-getD [] zero d e = refl
+  rows-getD [] (suc n) d e = let z : ⊥ = omega arith in absurd z
+  rows-getD (x ∷ xs) zero d e = let z : ⊥ = omega arith in absurd z
+  rows-getD (x ∷ xs) (suc n) d e = ap {B = List A} (λ ys. x ∷ ys) (rows-getD xs n d (omega arith))
 
   -- what a loop over a table has left at record i, and at the end
   pub drop-rows-at : (n : ℕ) (g : ℕ → A) (i : ℕ) → i < n → drop i (rows n g) ≡ g i ∷ drop (i + 1) (rows n g)

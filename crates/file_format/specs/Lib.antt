@@ -1,0 +1,17 @@
+pub mod Words
+pub mod Fields
+pub mod Books
+pub mod Calls
+pub mod File
+pub mod Places
+pub mod Theorems
+pub mod Example
+pub mod Refused
+pub mod FieldsLaws
+pub mod BooksLaws
+pub mod CallsLaws
+pub mod FileLaws
+pub mod AcceptedLaws
+pub mod AccessLaws
+pub mod PlacesLaws
+pub mod PutLaws
