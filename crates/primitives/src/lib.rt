@@ -63,6 +63,12 @@ pub struct Scalars {
     pub consolidations: usize,
 }
 
+// What a call answers: the number of its cause, and the scalars that it leaves.
+pub struct Outcome {
+    pub number: u8,
+    pub scalars: Scalars,
+}
+
 // The fifteen chain values of mainnet, in the order of the settings.
 pub const MAINNET: [u64; 15] = [
     32_000_000_000,

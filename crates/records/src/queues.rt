@@ -58,6 +58,26 @@ pub fn consolidation_at(consolidations: &[u64], i: usize) -> PendingConsolidatio
     }
 }
 
+// ---- how many records fit
+
+pub fn deposits_fit(deposits: &[u64]) -> usize
+    ensures { λ r. ⌜ r ≡ deposits-fit (now (deposits .entry)) ⌝ }
+{
+    deposits.len() / 2
+}
+
+pub fn partials_fit(partials: &[u64]) -> usize
+    ensures { λ r. ⌜ r ≡ partials-fit (now (partials .entry)) ⌝ }
+{
+    partials.len() / 3
+}
+
+pub fn consolidations_fit(consolidations: &[u64]) -> usize
+    ensures { λ r. ⌜ r ≡ consolidations-fit (now (consolidations .entry)) ⌝ }
+{
+    consolidations.len() / 2
+}
+
 // ---- one record more, behind the first n
 
 pub fn push_deposit(deposits: &mut [u64], n: usize, d: PendingBalanceDeposit)

@@ -10,7 +10,8 @@ ghost use Rattle.lists.specs.Base.{same-bytes};
 ghost use Rattle.rules.specs.Update.{with-balance, with-effective-balance, with-exit};
 ghost use Rattle.rules.specs.Helpers.{prefix, increased, decreased, active-effective-balance, with-compounding-prefix};
 ghost use Rattle.records.specs.Layout.{public-key-at, withdrawal-credentials-at, validator-at};
-ghost use Rattle.records.specs.Layout.{slashed-at, effective-balance-at, exit-epoch-at, withdrawable-epoch-at};
+ghost use Rattle.records.specs.Layout.{slashed-at, effective-balance-at, activation-eligibility-epoch-at};
+ghost use Rattle.records.specs.Layout.{activation-epoch-at, exit-epoch-at, withdrawable-epoch-at};
 ghost use Rattle.records.specs.Layout.{balance-at, identities-fit, validators-fit};
 ghost use Rattle.records.specs.Plain.{plain-validator};
 ghost use Rattle.records.specs.Stores.{ValidatorAdjusted, IdentityAdjusted, ValidatorPushed, put-words};
@@ -35,6 +36,20 @@ pub fn validator_at(identities: &[u8], validators: &[u64], i: ValidatorIndex) ->
     }
 }
 
+// ---- how many validators fit
+
+pub fn identities_fit(identities: &[u8]) -> usize
+    ensures { λ r. ⌜ r ≡ identities-fit (now (identities .entry)) ⌝ }
+{
+    identities.len() / 80
+}
+
+pub fn validators_fit(validators: &[u64]) -> usize
+    ensures { λ r. ⌜ r ≡ validators-fit (now (validators .entry)) ⌝ }
+{
+    validators.len() / 7
+}
+
 // ---- one word or byte of a validator
 
 pub fn slashed_at(validators: &[u64], i: ValidatorIndex) -> u64
@@ -51,6 +66,22 @@ pub fn effective_balance_at(validators: &[u64], i: ValidatorIndex) -> Gwei
 {
     let at = 7 * i.0 + 1;
     Gwei(validators[at])
+}
+
+pub fn activation_eligibility_epoch_at(validators: &[u64], i: ValidatorIndex) -> Epoch
+    requires { ⌜ i .0 < validators-fit (now validators) ⌝ }
+    ensures { λ r. ⌜ r .0 ≡ activation-eligibility-epoch-at (now (validators .entry)) (i .0) ⌝ }
+{
+    let at = 7 * i.0 + 2;
+    Epoch(validators[at])
+}
+
+pub fn activation_epoch_at(validators: &[u64], i: ValidatorIndex) -> Epoch
+    requires { ⌜ i .0 < validators-fit (now validators) ⌝ }
+    ensures { λ r. ⌜ r .0 ≡ activation-epoch-at (now (validators .entry)) (i .0) ⌝ }
+{
+    let at = 7 * i.0 + 3;
+    Epoch(validators[at])
 }
 
 pub fn exit_epoch_at(validators: &[u64], i: ValidatorIndex) -> Epoch

@@ -1,0 +1,5 @@
+pub mod Tests
+pub mod Laws
+pub mod Books
+pub mod Handed
+pub mod Held

@@ -1,0 +1,4 @@
+pub mod Expected
+pub mod Listing
+pub mod Laws
+pub mod Ready

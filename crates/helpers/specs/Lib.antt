@@ -1,0 +1,4 @@
+pub mod Assigned
+pub mod Exits
+pub mod Ready
+pub mod Lookups

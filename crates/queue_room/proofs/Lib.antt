@@ -1,0 +1,3 @@
+pub mod Filling
+pub mod Crediting
+pub mod Counting

@@ -1,0 +1,5 @@
+pub mod Laws
+pub mod Balances
+pub mod Represented
+pub mod Ready
+pub mod Room
