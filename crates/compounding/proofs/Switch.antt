@@ -1,11 +1,10 @@
 -- The switch, from the stores that the code makes.
 use mathlib.Core.Path.{_≡_, refl, sym, ap, _∙_}
-use mathlib.Core.Bool.{true, false}
 use mathlib.Core.List.{List}
 use Prim.Native.Nat.{ℕ, _+_, _-_, _<_, _≤_}
 use native.Mathlib.Nat.{add-zero}
 use lib.ListN.{length}
-use lib.Dec.{ltb, eqb}
+use lib.Dec.{eqb}
 use borrow.Author.Tests.{eq-eqb, ne-eqb, lt-ltb, le-ltb}
 use Rattle.lists.specs.Base.{if_then_else_, adjust}
 use Rattle.lists.specs.Laws.{if-true, if-false}
@@ -17,7 +16,7 @@ use Rattle.rules.specs.Counting.{excess-entry}
 use Rattle.primitives.specs.declared.Scalars.{Scalars}
 use Rattle.primitives.specs.Scalars.{with-deposits}
 use Rattle.records.specs.Layout.{withdrawal-credentials-at, balance-at}
-use Rattle.records.specs.Books.{Stepped, Beyond, books-of, tables, beyond-none}
+use Rattle.records.specs.Books.{Stepped, books-of, tables, beyond-none}
 use Rattle.records.specs.Reading.{validator-read}
 use Rattle.records.specs.Stores.{ValidatorAdjusted, IdentityAdjusted}
 use Rattle.records.specs.Queues.{DepositPushed}
@@ -26,7 +25,8 @@ use Rattle.compounding.specs.Laws.{entries-queued, entries-none, entries
 -- ---- the excess
 
 module _ (S : Settings) (i : ℕ) (s : Scalars) (vs ds : List ℕ) (known : i < s .validators) where
-  balance-read : (ids ps cs : List ℕ) → at (books-of s (tables ids vs ds ps cs) .validators) i .balance ≡ balance-at vs i
+  balance-read : (ids ps cs : List ℕ) → at (books-of s (tables ids vs ds ps cs) .validators) i .balance ≡
+      balance-at vs i
   balance-read ids ps cs = ap (λ (v : Validator). v .balance) (validator-read s (tables ids vs ds ps cs) i known)
 
   pub not-queued : balance-at vs i ≤ S .min-activation-balance → (ids ps cs : List ℕ)
@@ -39,7 +39,11 @@ module _ (S : Settings) (i : ℕ) (s : Scalars) (vs ds : List ℕ) (known : i < 
 
   pub queued : S .min-activation-balance < balance-at vs i → (new-vs new-ds : List ℕ)
       → ValidatorAdjusted i (with-balance (S .min-activation-balance)) vs new-vs
-      → DepositPushed (s .deposits) (record { index = i; amount = balance-at vs i - S .min-activation-balance }) ds new-ds
+      → DepositPushed (s .deposits) (record {
+        index =
+            i;
+        amount = balance-at vs i - S .min-activation-balance;
+      }) ds new-ds
       → (ids ps cs : List ℕ)
       → Stepped (queue-excess-active-balance S i) s (tables ids vs ds ps cs) (tables ids new-vs new-ds ps cs)
       (with-deposits s (s .deposits + 1))
@@ -82,7 +86,7 @@ module _ (S : Settings) (i : ℕ) (s : Scalars) (ids vs ds : List ℕ) (known : 
   none-queued h ps cs =
       rw (
         entries-none S i (books-of s (tables ids vs ds ps cs))
-        (eth1-read ps cs ∙ ne-eqb (prefix (withdrawal-credentials-at ids i)) 1 h),
+            (eth1-read ps cs ∙ ne-eqb (prefix (withdrawal-credentials-at ids i)) 1 h),
         add-zero (s .deposits),
       )
 

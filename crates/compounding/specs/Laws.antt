@@ -1,7 +1,7 @@
 -- How many entries a switch to compounding queues.
-use mathlib.Core.Path.{_≡_, refl, sym, ap, _∙_}
-use mathlib.Core.Bool.{Bool, true, false, _&&_}
-use mathlib.Core.List.{List, [], _∷_}
+use mathlib.Core.Path.{_≡_, refl}
+use mathlib.Core.Bool.{Bool, true, false}
+use mathlib.Core.List.{[], _∷_}
 use Prim.Native.Nat.{ℕ, _-_, _<_, _≤_}
 use native.Mathlib.Omega.{arith}
 use lib.ListN.{length}
@@ -45,7 +45,11 @@ module _ (S : Settings) (i : ℕ) (b : Books) where
     where
       go : (t : Bool)
           → length {A = PendingBalanceDeposit}
-          (if t then record { index = i; amount = at (b .validators) i .balance - S .min-activation-balance } ∷ [] else [])
+          (if t then record {
+            index =
+                i;
+            amount = at (b .validators) i .balance - S .min-activation-balance;
+          } ∷ [] else [])
           ≡ (if t then 1 else 0)
       go true = refl
       go false = refl

@@ -1,13 +1,12 @@
 -- The invariants of the two loops, and a turn of each.
-use mathlib.Core.Path.{_≡_, refl, ap, ap₂, sym, _∙_}
-use mathlib.Core.List.{List, [], _∷_}
+use mathlib.Core.Path.{_≡_, ap, ap₂, sym, _∙_}
+use mathlib.Core.List.{List, _∷_}
 use Prim.Native.Nat.{ℕ, suc, _+_, _-_, _%_, _≤_, _<_, min}
 use native.Mathlib.Nat.{mod-lt, sub-zero}
 use native.Mathlib.Omega.{arith}
 use lib.ListN.{drop}
 use Rattle.tables.specs.Rows.{rows, drop-rows-at, drop-rows-end}
 use Rattle.rules.specs.Types as rule
-use Rattle.rules.specs.Helpers.{at, count}
 use Rattle.primitives.specs.declared.Settings.{Settings}
 use Rattle.primitives.specs.declared.Scalars.{Scalars}
 use Rattle.primitives.specs.Settings.{settings-of}
@@ -119,7 +118,8 @@ module _ (settings : Settings) (s : Scalars) (ids vs : List ℕ) (listed : Expec
 
     pub sweeping-more : {next : ExpectedWithdrawals} → k < bound → e .count < settings .«max_withdrawals_per_payload»
         → next
-        ≡ list-validator (settings-of settings) (s .epoch .0) (s .«next_withdrawal_index» .0) i (validator-at ids vs i) e
+        ≡ list-validator (settings-of settings) (s .epoch .0) (s .«next_withdrawal_index» .0) i
+        (validator-at ids vs i) e
         → Sweeping bound next ((i + 1) % s .validators) (k + 1)
     unfolding books-of
     sweeping-more {next} h r t = record {

@@ -1,6 +1,5 @@
 -- What listing the expected withdrawals requires, and that accepted settings and books in buffers that are long enough
 -- give it.
-use mathlib.Core.Path.{_≡_, sym}
 use mathlib.Core.List.{List}
 use Prim.Native.Nat.{ℕ, _≤_, _<_, _^_}
 use native.Mathlib.Omega.{arith}
@@ -54,7 +53,8 @@ module _ (settings : Settings) (s : Scalars) (t : Tables) (σ : SoundSettings (s
       let none : rule.PendingPartialWithdrawal = record { index = 0; amount = 0; withdrawable-epoch = 0 } in
       let k : j < length (b .pending-partial-withdrawals) = omega (arith, h, partials-count s t) in
       let read = getD-rows (s .partials) (partial-at (t .partials)) j none h in
-      let test = rw read at (every-at (partial-in (count b)) j (b .pending-partial-withdrawals) none k (β .partials-in)) in
+      let entries = b .pending-partial-withdrawals in
+      let test = rw read at (every-at (partial-in (count b)) j entries none k (β .partials-in)) in
       omega (arith, ltb-true (partial-at (t .partials) j .index) (count b) test, validators-count s t)
 
   pub ready : Ready settings s (t .identities) (t .validators) (t .partials)

@@ -84,7 +84,7 @@ impl ExpectedWithdrawals {
         let v = records::registry::validator_at(identities, validators, i);
         let address = v.withdrawal_address();
         let count = self.count;
-        let index = WithdrawalIndex(first.0 + count as u64);
+        let index = WithdrawalIndex(first.0 + self.count as u64);
         let w = Withdrawal {
             index,
             validator_index: i,

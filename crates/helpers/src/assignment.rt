@@ -76,6 +76,7 @@ fn additional_epochs(available: Gwei, churn: Gwei, amount: Gwei) -> Additional
     }
 }
 
+// The assignment without the last sum, so that each caller can judge whether it fits.
 fn assignment_parts(
     left: Gwei,
     earliest: Epoch,

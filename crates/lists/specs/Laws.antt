@@ -176,7 +176,8 @@ module _ {A : Type 0} where
   every-fails t (suc i) (x ∷ xs) d h p =
       and-false (t x) (every t xs) (every-fails t i xs d (le-of-suc-le-suc h) p)
 
-  pub getD-adjust : (i : ℕ) (g : A → A) (xs : List A) (d : A) → i < length xs → getD (adjust i g xs) i d ≡ g (getD xs i d)
+  pub getD-adjust : (i : ℕ) (g : A → A) (xs : List A) (d : A) → i < length xs
+      → getD (adjust i g xs) i d ≡ g (getD xs i d)
   getD-adjust i g [] d h = absurd (not-suc-le-zero h)
   getD-adjust zero g (x ∷ xs) d h = refl
   getD-adjust (suc i) g (x ∷ xs) d h = getD-adjust i g xs d (le-of-suc-le-suc h)

@@ -41,7 +41,6 @@ switched-prefix : (c : List ℕ) → eqb (prefix (set c 0 2)) 1 ≡ false
 switched-prefix [] = refl
 switched-prefix (x ∷ xs) = refl
 
--- a validator that switches is none that can switch again, and one that does not could not
 switched-none : (S : Settings) (i : ℕ) (vs : List Validator)
     → has-eth1-withdrawal-credential (at (adjust i (switched S) vs) i) ≡ false
 switched-none S i [] = refl
@@ -49,6 +48,7 @@ switched-none S zero (v ∷ vs) = switched-prefix (v .withdrawal-credentials)
 switched-none S (suc i) (v ∷ vs) = switched-none S i vs
 
 module _ (S : Settings) (i : ℕ) (b : Books) where
+  -- no validator can switch a second time
   pub switch-done : has-eth1-withdrawal-credential (at (switch-to-compounding-validator S i b .validators) i) ≡ false
   switch-done =
       ap (λ (e : Books). has-eth1-withdrawal-credential (at (e .validators) i)) (switch-form S i b)

@@ -41,7 +41,7 @@ pub record ConsolidationsReady (s : Scalars) (cs : List ℕ) : Type 0 where
   pub fit : s .consolidations ≤ consolidations-fit cs
   pub inside : every (consolidation-in (s .validators)) (consolidations-of s cs) ≡ true
 
--- the deposit queue, for a step that does not read it
+-- how many deposits wait
 pub record QueueReady (S : Settings) (s : Scalars) : Type 0 where
   pub limit-most : S .«pending_balance_deposits_limit» ≤ 65536
   pub most : s .deposits ≤ S .«pending_balance_deposits_limit»

@@ -1,4 +1,5 @@
--- Books of which the count of excess entries reads all in the validators' words and in the switchable balances.
+-- Books, where all that the count of excess entries reads of them stands in the validators' words and in the
+-- switchable balances.
 use mathlib.Core.Path.{_≡_, refl, ap, _∙_}
 use Prim.Native.Nat.{ℕ, _+_, _≤_, _<_}
 use mathlib.Core.List.{List}

@@ -139,7 +139,7 @@ fn consolidate(minimum: Gwei, c: PendingConsolidation, balances: &mut [u64; 6553
     entries
 }
 
-// How many entries the switches of the consolidation step queue, on any books that the words and the balances tell of.
+// How many entries the switches of the consolidation step queue, on any books that words and balances represent.
 fn count_excess_entries(
     settings: Settings,
     scalars: Scalars,

@@ -15,7 +15,8 @@ use Rattle.rules.specs.Helpers.{at, no-validator, count, Assignment, get-activa
 use Rattle.rules.specs.Helpers.{compute-activation-exit-epoch, compute-exit-epoch-and-update-churn}
 use Rattle.rules.specs.Helpers.{get-consolidation-churn-limit, compute-consolidation-epoch-and-update-churn}
 use Rattle.rules.specs.Helpers.{initiate-validator-exit}
-use Rattle.rules.specs.BlockProcessing.{expected-partial-withdrawals, next-index, process-withdrawals, process-consolidation}
+use Rattle.rules.specs.BlockProcessing.{expected-partial-withdrawals, next-index, process-withdrawals}
+use Rattle.rules.specs.BlockProcessing.{process-consolidation}
 use Rattle.rules.specs.Acceptance.{held, partial-amounts, effective-within, epochs-within, partial-epoch-within}
 use Rattle.rules.specs.Acceptance.{within-limits, sums-within, all-epochs-within}
 use Rattle.rules.specs.Calls.{size-refusal}
@@ -181,5 +182,6 @@ module _ (S : Settings) (σ : SoundSettings S) (b : Books) (k : SoundBooks S b) 
       (limits-queue S e (k .registry-fits)
       ∙ le-leb (length (b .pending-balance-deposits)) (S .pending-balance-deposits-limit) (k .deposits-fit))
       (sums-partials e (k .held-small) ∙ ap (λ (n : ℕ). leb n BOUND) sum)
-      (epochs-partial e x w near ordered (k .epoch-small) (k .index-small) refl (k .consolidation-epoch-small) (k .epochs)
+      (epochs-partial e x w near ordered (k .epoch-small) (k .index-small) refl (k .consolidation-epoch-small)
+      (k .epochs)
       (partial-epochs-more w near i amount))

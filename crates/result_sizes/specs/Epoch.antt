@@ -51,7 +51,9 @@ module _ (S : Settings) (b : Books) (k : SoundBooks S b) where
 
   -- a steady change: the deposit queue and what is held decide
   pub steady-size : (e : Books) → Steady b e → size-refusal S e
-      ≡ size-number (leb (length (e .pending-balance-deposits)) (S .pending-balance-deposits-limit)) (leb (held e) BOUND) true
+      ≡ size-number
+      (leb (length (e .pending-balance-deposits)) (S .pending-balance-deposits-limit))
+      (leb (held e) BOUND) true
   steady-size e s =
       size-by S e _ _ _ (limits-queue S e (registry-small e s)) (sums-held e (partials-small e s))
       (epochs-so e (s .epochs (epochs-before S b k)))
@@ -62,7 +64,8 @@ module _ (S : Settings) (b : Books) (k : SoundBooks S b) where
   steady-none e s h q =
       steady-size e s
       ∙ rw (
-        le-leb (length (e .pending-balance-deposits)) (S .pending-balance-deposits-limit) (omega (arith, k .deposits-fit)),
+        le-leb (length (e .pending-balance-deposits)) (S .pending-balance-deposits-limit)
+            (omega (arith, k .deposits-fit)),
         le-leb (held e) BOUND (omega (arith, k .held-small)),
       )
 

@@ -8,7 +8,8 @@ use lib.ListN.{length}
 use lib.Dec.{leb, eqb}
 use borrow.Author.Tests.{leb-true, leb-false, le-leb, lt-leb, ne-eqb}
 use Rattle.lists.specs.Base.{if_then_else_, all, adjust, every}
-use Rattle.lists.specs.Laws.{both, join, and-true, and-false, every-adjust, every-at, every-fails, length-adjust, getD-adjust}
+use Rattle.lists.specs.Laws.{both, join, and-true, and-false, every-adjust, every-fails, length-adjust}
+use Rattle.lists.specs.Laws.{getD-adjust}
 use Rattle.rules.specs.Types.{FAR, BOUND, Settings, Validator, Books}
 use Rattle.rules.specs.Update.{with-exit}
 use Rattle.rules.specs.Helpers.{at, no-validator, count}

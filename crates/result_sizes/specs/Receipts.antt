@@ -1,4 +1,4 @@
--- The size of a receipt's result, from accepted books: the registry, the deposit queue and what is held can be too large.
+-- The size of a receipt's result, from accepted books: the registry, the deposit queue and the sum can be too large.
 use mathlib.Core.Path.{_≡_, refl, ap, ap₂, _∙_}
 use mathlib.Core.Bool.{Bool, true, false, not, _&&_}
 use mathlib.Core.List.{List, [], _∷_, _++_}

@@ -156,7 +156,8 @@ unfolding
     block.process-voluntary-exit block.request-partial-withdrawal block.process-execution-layer-withdrawal-request
     block.process-deposit-receipt block.consolidation-refusal block.process-consolidation acceptance.sound-settings
     acceptance.sound-books acceptance.within-limits acceptance.sums-within acceptance.all-epochs-within
-    calls.enough-room calls.handed-refusal calls.own-refusal calls.result calls.size-refusal calls.answer calls.done calls.after
+    calls.enough-room calls.handed-refusal calls.own-refusal calls.result calls.size-refusal calls.answer calls.done
+    calls.after
     calls.assignment-answer counting.excess-entry counting.excess-entries counting.receipt-counts
     counting.deposit-step-counts counting.consolidation-step-counts counting.counts counting.call-counts
 opened = 0

@@ -1,5 +1,6 @@
 -- The rules of capella/helpers.rs and electra/helpers.rs, on whole numbers: nothing overflows, and every function is
--- total. S is the settings, b the books, v a validator, i the index of one.
+-- total. They stand in the order of the Rust but where one needs another. S is the settings, b the books, v a
+-- validator, i the index of one.
 use mathlib.Core.Bool.{Bool, _&&_, _||_}
 use mathlib.Core.List.{List, [], _∷_, _++_}
 use Prim.Native.Nat.{ℕ, suc, _+_, _-_, _*_, _/_, _%_, min, max}

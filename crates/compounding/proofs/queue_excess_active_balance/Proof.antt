@@ -9,74 +9,73 @@ use Rattle.compounding.specs.Laws.{entries-low, entries-high}
 use Rattle.compounding.proofs.Switch.{not-queued, queued}
 use Rattle.compounding.proofs.queue_excess_active_balance.Statement.{statement}
 use Rattle.compounding.proofs.queue_excess_active_balance.Tie as tie
-use Rattle.compounding.proofs.queue_excess_active_balance.Reads as reads
-use Rattle.compounding.proofs.queue_excess_active_balance.Lts as lts
-use Rattle.primitives.proofs.Scalars.with_deposits.Reads as with-deposits-reads
-use Rattle.records.proofs.queues.push_deposit.Reads as push-deposit-reads
-use Rattle.records.proofs.registry.balance_at.Reads as balance-at-reads
-use Rattle.records.proofs.registry.set_balance.Reads as set-balance-reads
 
--- src/lib.rt:46:9
 balance-at-requires : tie.Need-balance-at-requires
 balance-at-requires c κs = search needs
 
--- src/lib.rt:48:9
 same-length : tie.Need-same-length
 same-length c = search needs
 
--- src/lib.rt:48:9
 returns : tie.Need-returns
 returns c =
     let a = c .before .before .before .before .before .before .before .before .args in
     let S = settings-of (a .settings) in
     let balance = balance-at (a .validators .now) (a .i .0) in
     let low : balance ≤ S .min-activation-balance = omega arith in (
-      not-queued S (a .i .0) (a .scalars) (a .validators .now) (a .deposits .now) (c .before .before .before .before .before .before .before .before .pre .0 .0) low,
+      not-queued S (a .i .0) (a .scalars) (a .validators .now) (a .deposits .now)
+          (c .before .before .before .before .before .before .before .before .pre .0 .0) low,
       rw (entries-low S balance low, add-zero (a .scalars .deposits)),
     )
 
--- src/lib.rt:50:31
 sub-t13 : tie.Need-sub-t13
 sub-t13 c = search needs
 
--- src/lib.rt:51:5
 set-balance-requires : tie.Need-set-balance-requires
 set-balance-requires c κs = search needs
 
--- src/lib.rt:52:5
 push-deposit-requires : tie.Need-push-deposit-requires
 push-deposit-requires c κs =
-    let a = c .before .before .before .before .before .before .before .before .before .before .before .before .before .before .before .args in
+    let a =
+    c .before .before .before .before .before .before .before .before .before .before .before .before .before
+    .before .before .args in
     let balance = balance-at (a .validators .now) (a .i .0) in
     omega (arith, entries-high (settings-of (a .settings)) balance (omega arith))
 
--- src/lib.rt:60:27
 add-with-deposits : tie.Need-add-with-deposits
 add-with-deposits c = search needs
 
--- src/lib.rt:60:5
 with-deposits-requires : tie.Need-with-deposits-requires
 with-deposits-requires c κs = search needs
 
--- src/lib.rt:20:1
 same-length-2 : tie.Need-same-length-2
 same-length-2 c = search needs
 
--- src/lib.rt:20:1
 same-length-3 : tie.Need-same-length-3
 same-length-3 c = search needs
 
--- src/lib.rt:20:1
 returns-2 : tie.Need-returns-2
 returns-2 c =
-    let a = c .before .before .before .before .before .before .before .before .before .before .before .before .before .before .before .before .before .before .before .args in
+    let a =
+    c .before .before .before .before .before .before .before .before .before .before .before .before .before
+    .before .before .before .before .before .before .args in
     let S = settings-of (a .settings) in
     let balance = balance-at (a .validators .now) (a .i .0) in
-    let read : c .before .before .before .before .before .before .before .before .before .before .before .before .before .before .balance-at .result .0 ≡ balance = c .before .before .before .before .before .before .before .before .before .before .before .before .before .before .balance-at .ensures in
-    let high : S .min-activation-balance < balance = omega (arith, read, c .before .before .before .before .before .before .before .before .before .before .before .if1 .left) in
+    let read : c .before .before .before .before .before .before .before .before .before .before .before .before
+    .before .before .balance-at .result .0 ≡ balance = c .before .before .before .before .before .before
+    .before .before .before .before .before .before .before .before .balance-at .ensures in
+    let high : S .min-activation-balance < balance =
+    omega (
+      arith,
+      read,
+      c .before .before .before .before .before .before .before .before .before .before
+          .before .if1 .left,
+    ) in
     rw (c .with-deposits .ensures) (
-      queued S (a .i .0) (a .scalars) (a .validators .now) (a .deposits .now) (c .before .before .before .before .before .before .before .before .before .before .before .before .before .before .before .before .before .before .before .pre .0 .0) high _ _
-      (c .before .before .before .before .before .before .before .set-balance .ensures) (rw read at (c .before .before .before .push-deposit .ensures)),
+      queued S (a .i .0) (a .scalars) (a .validators .now) (a .deposits .now)
+          (c .before .before .before .before .before .before .before .before .before .before .before .before
+          .before .before .before .before .before .before .before .pre .0 .0) high _ _
+          (c .before .before .before .before .before .before .before .set-balance .ensures)
+          (rw read at (c .before .before .before .push-deposit .ensures)),
       rw (entries-high S balance high),
     )
 

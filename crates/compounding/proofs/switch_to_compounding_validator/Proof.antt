@@ -1,6 +1,5 @@
 use mathlib.Core.Path.{_≡_, ap, sym, _∙_}
 use mathlib.Core.List.{[]}
-use native.Mathlib.Omega.{arith}
 use borrow.Author.Needs.{needs}
 use Rattle.rules.specs.Helpers.{prefix}
 use Rattle.primitives.specs.declared.Scalars.{Scalars}
@@ -9,21 +8,13 @@ use Rattle.records.specs.Layout.{withdrawal-credentials-at}
 use Rattle.compounding.proofs.Switch.{not-switched, none-queued, entries-read, switched}
 use Rattle.compounding.proofs.switch_to_compounding_validator.Statement.{statement}
 use Rattle.compounding.proofs.switch_to_compounding_validator.Tie as tie
-use Rattle.compounding.proofs.switch_to_compounding_validator.Reads as reads
-use Rattle.compounding.proofs.switch_to_compounding_validator.Lts as lts
-use Rattle.compounding.proofs.queue_excess_active_balance.Reads as queue-excess-active-balance-reads
-use Rattle.records.proofs.registry.prefix_at.Reads as prefix-at-reads
-use Rattle.records.proofs.registry.set_compounding_prefix.Reads as set-compounding-prefix-reads
 
--- src/lib.rt:99:8
 prefix-at-requires : tie.Need-prefix-at-requires
 prefix-at-requires c κs = search needs
 
--- src/lib.rt:100:9
 same-length : tie.Need-same-length
 same-length c = search needs
 
--- src/lib.rt:100:9
 returns : tie.Need-returns
 returns c =
     let a = c .before .before .before .before .before .before .args in
@@ -31,39 +22,35 @@ returns c =
     λ e. c .if1 .taken (c .before .prefix-at .ensures ∙ e) in
     let S = settings-of (a .settings) in (
       not-switched S (a .i .0) (a .scalars) (a .identities .now) (a .validators .now) (a .deposits .now)
-      (c .before .before .before .before .before .before .pre .0 .0) other,
+          (c .before .before .before .before .before .before .pre .0 .0) other,
       none-queued S (a .i .0) (a .scalars) (a .identities .now) (a .validators .now) (a .deposits .now)
-      (c .before .before .before .before .before .before .pre .0 .0) other,
+          (c .before .before .before .before .before .before .pre .0 .0) other,
     )
 
--- src/lib.rt:102:5
 set-compounding-prefix-requires : tie.Need-set-compounding-prefix-requires
 set-compounding-prefix-requires c κs = search needs
 
--- src/lib.rt:103:5
 queue-excess-active-balance-requires : tie.Need-queue-excess-active-balance-requires
 queue-excess-active-balance-requires c κs =
     let a = c .before .before .before .before .before .before .before .before .before .before .before .before .args in
     let p = c .before .before .before .before .before .before .before .before .before .before .before .before .pre in
-    let compounds = sym (c .before .before .before .before .before .before .before .prefix-at .ensures) ∙ c .before .before .before .before .before .before .if1 .left in
+    let compounds =
+    sym (c .before .before .before .before .before .before .before .prefix-at .ensures) ∙ c .before .before
+    .before .before .before .before .if1 .left in
     let entries =
     entries-read (settings-of (a .settings)) (a .i .0) (a .scalars) (a .identities .now) (a .validators .now)
     (a .deposits .now) (p .0 .0) compounds in
     ((p .0 .0, p .0 .2), rw (← entries [] []) (p .1 [] []))
 
--- src/lib.rt:64:1
 same-length-2 : tie.Need-same-length-2
 same-length-2 c = search needs
 
--- src/lib.rt:64:1
 same-length-3 : tie.Need-same-length-3
 same-length-3 c = search needs
 
--- src/lib.rt:64:1
 same-length-4 : tie.Need-same-length-4
 same-length-4 c = search needs
 
--- src/lib.rt:64:1
 returns-2 : tie.Need-returns-2
 returns-2 c =
     let d = c .before .before .before .before .before .before .before .before .before .before .before in
@@ -76,8 +63,9 @@ returns-2 c =
     entries-read S (a .i .0) (a .scalars) (a .identities .now) (a .validators .now) (a .deposits .now)
     (p .0 .0) compounds in (
       switched S (a .i .0) (a .scalars) (a .identities .now) (a .validators .now) (a .deposits .now)
-      (p .0 .0) compounds _ _ _ (c .before .before .before .before .before .before .before .before .before .set-compounding-prefix .ensures) (q .result)
-      (ap (λ (s : Scalars). s .validators) (q .ensures .1)) (q .ensures .0),
+          (p .0 .0) compounds _ _ _ (c .before .before .before .before .before .before .before .before .before
+          .set-compounding-prefix .ensures) (q .result)
+          (ap (λ (s : Scalars). s .validators) (q .ensures .1)) (q .ensures .0),
       λ ps cs. rw (entries ps cs) (q .ensures .1),
     )
 

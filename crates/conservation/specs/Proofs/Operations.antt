@@ -150,8 +150,8 @@ module _ (S : Settings) (b : Books) where
       (λ e. choose valid (λ e. added-flow public-key withdrawal-credentials amount) (λ e. still b))
 
 -- the receipt start is no part of what is counted
-pub receipt-flow : (S : Settings) (b : Books) (public-key withdrawal-credentials : List ℕ) (amount index : ℕ) (valid : Bool)
-    → Flow (receipt-counts S b public-key withdrawal-credentials amount valid) b
+pub receipt-flow : (S : Settings) (b : Books) (public-key withdrawal-credentials : List ℕ) (amount index : ℕ)
+    (valid : Bool) → Flow (receipt-counts S b public-key withdrawal-credentials amount valid) b
     (process-deposit-receipt S public-key withdrawal-credentials amount index valid b)
 unfolding process-deposit-receipt receipt-counts excess-entry
 receipt-flow S b public-key withdrawal-credentials amount index valid =

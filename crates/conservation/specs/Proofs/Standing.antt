@@ -11,7 +11,8 @@ use Rattle.rules.specs.Helpers.{count}
 use Rattle.rules.specs.BlockProcessing.{withdrawals-refusal, voluntary-exit-refusal, consolidation-refusal}
 use Rattle.rules.specs.Acceptance.{sound-books}
 use Rattle.rules.specs.Calls as calls
-use Rattle.rules.specs.Calls.{Operation, Room, Call, handed-refusal, own-refusal, result, size-refusal, answer, done, after}
+use Rattle.rules.specs.Calls.{Operation, Room, Call, handed-refusal, own-refusal, result, size-refusal}
+use Rattle.rules.specs.Calls.{answer, done, after}
 use Rattle.rule_laws.specs.Accepted.{SoundBooks, settings-sound, books-sound, books-sound-so}
 use Rattle.rule_laws.specs.Accepted.{Fits, Sums, Epochs, fits, sums, epochs}
 use Rattle.conservation.specs.Proofs.Answered.{Passed, done-passed}

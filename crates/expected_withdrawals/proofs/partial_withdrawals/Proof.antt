@@ -1,4 +1,4 @@
-use mathlib.Core.Path.{_≡_, sym, ap, _∙_}
+use mathlib.Core.Path.{sym, ap, _∙_}
 use mathlib.Core.Logic.{⊎-elim}
 use Prim.Native.Nat.{_-_, _<_, _≤_}
 use native.Mathlib.Omega.{arith}
@@ -13,7 +13,8 @@ use Rattle.expected_withdrawals.proofs.partial_withdrawals.Statement.{s
 use Rattle.expected_withdrawals.proofs.partial_withdrawals.Tie as tie
 
 abbrev Inv-loop : tie.InvT-loop
-Inv-loop settings scalars identities validators partials most first n e₀ k₀ e k = Walking settings scalars identities validators partials e k
+Inv-loop settings scalars identities validators partials most first n e₀ k₀ e k =
+    Walking settings scalars identities validators partials e k
 
 abbrev μ-loop : tie.MeasureT-loop
 μ-loop settings scalars identities validators partials most first n e₀ k₀ e k = n - k
@@ -24,7 +25,8 @@ none-requires c κs = search needs
 loop-holds : tie.Need-loop-holds Inv-loop μ-loop
 loop-holds c =
     let a = c .before .before .before .before .before .args in
-    walking-none (a .settings) (a .scalars) (a .identities .now) (a .validators .now) (a .partials .now) (c .none .ensures)
+    walking-none (a .settings) (a .scalars) (a .identities .now) (a .validators .now) (a .partials .now)
+    (c .none .ensures)
 
 returns : tie.Need-returns Inv-loop μ-loop
 returns c =
@@ -33,49 +35,70 @@ returns c =
     (c .before .before .before .loop .inv) (c .if1 .taken)
 
 partial-at-requires : tie.Need-partial-at-requires Inv-loop μ-loop
-partial-at-requires c κs = omega (arith, c .before .before .loop-test .taken, c .before .before .before .before .before .before .before .before .before .pre .partials)
+partial-at-requires c κs =
+    let s = c .before .before .before .before .before .before .before .before .before in
+    omega (arith, c .before .before .loop-test .taken, s .pre .partials)
 
 -- the entry's validator is there
 inside : (c : tie.After-partial-at Inv-loop μ-loop)
-    → c .partial-at .result .index .0 < c .before .before .before .before .before .before .before .before .before .before .args .scalars .validators
+    → let s = c .before .before .before .before .before .before .before .before .before .before in
+    c .partial-at .result .index .0 < s .args .scalars .validators
 inside c =
-    rw (ap (λ p. p .index) (c .partial-at .ensures)) (c .before .before .before .before .before .before .before .before .before .before .pre .inside (c .before .before .before .before .loop .k) (c .before .before .before .loop-test .taken))
+    let s = c .before .before .before .before .before .before .before .before .before .before in
+    let k = c .before .before .before .before .loop .k in
+    rw (ap (λ p. p .index) (c .partial-at .ensures)) (s .pre .inside k (c .before .before .before .loop-test .taken))
 
 -- and where it is paid, its balance stands above the minimum
 room : (c : tie.Then3 Inv-loop μ-loop)
-    → c .before .before .before .before .before .before .before .before .before .before .before .before .before .before .before .before .args .settings .«min_activation_balance» .0
-    ≤ balance-at (c .before .before .before .before .before .before .before .before .before .before .before .before .before .before .before .before .args .validators .now) (c .before .before .before .before .before .before .partial-at .result .index .0)
+    → let q = c .before .before .before .before .before .before in
+    let a = q .before .before .before .before .before .before .before .before .before .before .args in
+    a .settings .«min_activation_balance» .0 ≤ balance-at (a .validators .now) (q .partial-at .result .index .0)
 room c =
-    let a = c .before .before .before .before .before .before .before .before .before .before .before .before .before .before .before .before .args in
-    payable-room (settings-of (a .settings))
-    (validator-at (a .identities .now) (a .validators .now) (c .before .before .before .before .before .before .partial-at .result .index .0))
+    let q = c .before .before .before .before .before .before in
+    let a = q .before .before .before .before .before .before .before .before .before .before .args in
+    let v = validator-at (a .identities .now) (a .validators .now) (q .partial-at .result .index .0) in
+    payable-room (settings-of (a .settings)) v
     (sym (c .before .is-partial-payable .ensures (a .identities .now)) ∙ c .if3 .taken)
 
 returns-2 : tie.Need-returns-2 Inv-loop μ-loop
 returns-2 c =
-    let a = c .before .before .before .before .before .before .before .before .before .before .before .before .before .args in
+    let q = c .before .before .before in
+    let a = q .before .before .before .before .before .before .before .before .before .before .args in
     walked-stop (a .settings) (a .scalars) (a .identities .now) (a .validators .now) (a .partials .now)
-    (c .before .before .before .before .before .before .before .loop .inv) (c .before .before .before .before .before .before .loop-test .taken) (c .before .before .before .before .if1 .left) (c .before .before .before .partial-at .ensures) (c .if2 .taken)
+    (q .before .before .before .before .loop .inv) (q .before .before .before .loop-test .taken)
+    (q .before .if1 .left) (q .partial-at .ensures) (c .if2 .taken)
 
 is-partial-payable-requires : tie.Need-is-partial-payable-requires Inv-loop μ-loop
-is-partial-payable-requires c κs = omega (arith, inside (c .before .before .before .before), c .before .before .before .before .before .before .before .before .before .before .before .before .before .before .pre .sweep .validators)
+is-partial-payable-requires c κs =
+    let q = c .before .before .before .before in
+    let r = q .before .before .before .before .before .before .before .before .before .before .pre in
+    omega (arith, inside q, r .sweep .validators)
 
 partial-amount-requires : tie.Need-partial-amount-requires Inv-loop μ-loop
 partial-amount-requires c κs =
-    (omega (arith, inside (c .before .before .before .before .before .before), c .before .before .before .before .before .before .before .before .before .before .before .before .before .before .before .before .pre .sweep .validators), room c)
+    let q = c .before .before .before .before .before .before in
+    let r = q .before .before .before .before .before .before .before .before .before .before .pre in
+    (omega (arith, inside q, r .sweep .validators), room c)
 
 push-requires : tie.Need-push-requires Inv-loop μ-loop
 push-requires c κs =
-    let r = c .before .before .before .before .before .before .before .before .before .before .before .before .before .before .before .before .before .pre in (
-      (omega (arith, c .before .before .before .before .before .before .before .before .if1 .left, r .partials-payload, r .sweep .payload), r .sweep .index),
-      (omega (arith, inside (c .before .before .before .before .before .before .before), r .sweep .identities), omega (arith, inside (c .before .before .before .before .before .before .before), r .sweep .validators)),
+    let q = c .before .before .before .before .before .before .before in
+    let r = q .before .before .before .before .before .before .before .before .before .before .pre in
+    let below = q .before .if1 .left in (
+      (omega (arith, below, r .partials-payload, r .sweep .payload), r .sweep .index),
+      (omega (arith, inside q, r .sweep .identities), omega (arith, inside q, r .sweep .validators)),
     )
 
 add-k : tie.Need-add-k Inv-loop μ-loop
-add-k c = omega (arith, c .before .before .before .before .before .before .before .before .before .loop-test .taken, c .before .before .before .before .before .before .before .before .before .before .before .before .before .before .before .before .pre .partials, c .before .before .before .before .before .before .before .before .before .before .before .before .before .before .before .before .good)
+add-k c =
+    let l = c .before .before .before .before .before .before .before .before .before in
+    let s = l .before .before .before .before .before .before .before in
+    omega (arith, l .loop-test .taken, s .pre .partials, s .good)
 
 loop-less : tie.Need-loop-less Inv-loop μ-loop
-loop-less c = omega (arith, c .before .before .before .before .before .before .before .before .before .loop-test .taken)
+loop-less c =
+    let l = c .before .before .before .before .before .before .before .before .before in
+    omega (arith, l .loop-test .taken)
 
 loop-again : tie.Need-loop-again Inv-loop μ-loop
 loop-again c =
@@ -87,13 +110,15 @@ loop-again c =
     let first = a .scalars .«next_withdrawal_index» .0 in
     let payable = c .before .is-partial-payable .ensures (a .identities .now) in
     let more = walking-more (a .settings) (a .scalars) (a .identities .now) (a .validators .now) (a .partials .now)
-    (q .before .before .before .before .loop .inv) (q .before .before .before .loop-test .taken) (q .before .if1 .left) (q .partial-at .ensures)
+    (q .before .before .before .before .loop .inv) (q .before .before .before .loop-test .taken)
+    (q .before .if1 .left) (q .partial-at .ensures)
     (c .before .before .before .if2 .left) (inside q) in
     ⊎-elim
     (λ w. more
     (partial-listed S v first p (q .before .before .before .before .loop .e) (sym payable ∙ w .0 .taken)
     (w .1 .ensures (a .identities .now)) (w .3 ∙ w .2 .ensures)))
-    (λ w. more (w .1 ∙ partial-passed S v first p (q .before .before .before .before .loop .e) (sym payable ∙ w .0 .left)))
+    (λ w. more (w .1 ∙ partial-passed S v first p (q .before .before .before .before .loop .e)
+    (sym payable ∙ w .0 .left)))
     (c .if3 .came)
 
 returns-3 : tie.Need-returns-3 Inv-loop μ-loop

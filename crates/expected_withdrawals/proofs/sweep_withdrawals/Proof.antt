@@ -1,4 +1,4 @@
-use mathlib.Core.Path.{_≡_, _∙_}
+use mathlib.Core.Path.{_∙_}
 use mathlib.Core.Logic.{⊎-elim}
 use Prim.Native.Nat.{_-_}
 use native.Mathlib.Omega.{arith}
@@ -11,7 +11,8 @@ use Rattle.expected_withdrawals.proofs.sweep_withdrawals.Statement.{sta
 use Rattle.expected_withdrawals.proofs.sweep_withdrawals.Tie as tie
 
 abbrev Inv-loop : tie.InvT-loop
-Inv-loop settings scalars identities validators most first n bound e₀ i₀ k₀ e i k = Sweeping settings scalars identities validators e₀ bound e i k
+Inv-loop settings scalars identities validators most first n bound e₀ i₀ k₀ e i k =
+    Sweeping settings scalars identities validators e₀ bound e i k
 
 abbrev μ-loop : tie.MeasureT-loop
 μ-loop settings scalars identities validators most first n bound e₀ i₀ k₀ e i k = bound - k
@@ -46,10 +47,15 @@ push-requires c κs =
     )
 
 add-i : tie.Need-add-i Inv-loop μ-loop
-add-i c = omega (arith, c .before .before .before .before .before .before .loop .inv .inside, c .before .before .before .before .before .before .before .before .before .before .before .before .pre .validators, c .before .before .before .before .before .before .before .before .before .before .before .before .good)
+add-i c =
+    let l = c .before .before .before .before .before .before in
+    let s = l .before .before .before .before .before .before in
+    omega (arith, l .loop .inv .inside, s .pre .validators, s .good)
 
 rem-i : tie.Need-rem-i Inv-loop μ-loop
-rem-i c = omega (arith, c .before .before .before .before .before .before .loop .inv .inside)
+rem-i c =
+    let l = c .before .before .before .before .before .before in
+    omega (arith, l .loop .inv .inside)
 
 add-k : tie.Need-add-k Inv-loop μ-loop
 add-k c = omega (arith, c .before .before .before .before .before .loop-test .taken)
@@ -68,7 +74,8 @@ loop-again c =
     let first = a .scalars .«next_withdrawal_index» .0 in
     let amount = c .before .before .sweep-amount .ensures in
     let more = sweeping-more (a .settings) (a .scalars) (a .identities .now) (a .validators .now) (a .listed)
-    (q .loop .inv) (c .before .before .before .before .before .loop-test .taken) (c .before .before .before .if1 .left) in
+    (q .loop .inv) (c .before .before .before .before .before .loop-test .taken)
+    (c .before .before .before .if1 .left) in
     ⊎-elim
     (λ w. more (validator-listed S v epoch first i (q .loop .e) amount (w .0 .taken) (w .2 ∙ w .1 .ensures)))
     (λ w. more (w .1 ∙ validator-passed S v epoch first i (q .loop .e) amount (w .0 .left)))

@@ -16,7 +16,13 @@ epoch-within-requires-4 : tie.Need-epoch-within-requires-4
 epoch-within-requires-4 c κs = search needs
 
 returns : tie.Need-returns
-returns c = cc
+returns c =
+    simp (
+      c .before .before .before .epoch-within .ensures,
+      c .before .before .epoch-within2 .ensures,
+      c .before .epoch-within3 .ensures,
+      c .epoch-within4 .ensures,
+    )
 
 pub epochs-within-spec : {M : Type 1} → statement M
 epochs-within-spec =

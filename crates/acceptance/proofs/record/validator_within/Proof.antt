@@ -25,7 +25,16 @@ epochs-within-requires : tie.Need-epochs-within-requires
 epochs-within-requires c κs = search needs
 
 returns : tie.Need-returns
-returns c ids = cc
+returns c ids =
+    simp (
+      c .before .before .before .before .before .before .before .before .effective-balance-at .ensures,
+      c .before .before .before .before .before .before .before .slashed-at .ensures,
+      c .before .before .epochs-within .ensures,
+      c .before .before .before .before .before .before .activation-eligibility-epoch-at .ensures,
+      c .before .before .before .before .before .activation-epoch-at .ensures,
+      c .before .before .before .before .exit-epoch-at .ensures,
+      c .before .before .before .withdrawable-epoch-at .ensures,
+    )
 
 pub validator-within-spec : {M : Type 1} → statement M
 validator-within-spec =

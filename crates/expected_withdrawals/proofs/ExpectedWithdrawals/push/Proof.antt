@@ -14,8 +14,8 @@ validator-at-requires c κs = search needs
 withdrawal-address-requires : tie.Need-withdrawal-address-requires
 withdrawal-address-requires c κs = search needs
 
-add-t14 : tie.Need-add-t14
-add-t14 c = search needs
+add-t15 : tie.Need-add-t15
+add-t15 c = search needs
 
 mul-w : tie.Need-mul-w
 mul-w c = search needs
@@ -44,7 +44,7 @@ push-spec =
     (tie.spec
     validator-at-requires
     withdrawal-address-requires
-    add-t14
+    add-t15
     mul-w
     element-set-from-w
     add-self

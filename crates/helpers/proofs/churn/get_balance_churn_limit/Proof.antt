@@ -1,3 +1,5 @@
+use mathlib.Core.Path.{ap, _∙_}
+use Prim.Native.Nat.{ℕ, _-_, _/_, _%_, max}
 use native.Mathlib.Nat.{mod-le}
 use native.Mathlib.Omega.{arith}
 use borrow.Author.Needs.{needs}
@@ -29,8 +31,10 @@ sub-t8 c =
 returns : tie.Need-returns
 unfolding get-balance-churn-limit
 returns c = λ ids ds ps cs.
+    let S = c .before .before .before .before .before .before .before .before .args .settings in
     let total = c .before .before .before .before .before .before .get-total-active-balance .ensures ids ds ps cs in
-    cc
+    let limit = ap (λ (n : ℕ). max (S .«min_per_epoch_churn_limit_electra» .0) (n / S .«churn_limit_quotient»)) total in
+    ap (λ (n : ℕ). n - n % S .«effective_balance_increment» .0) (c .before .before .before .max .ensures ∙ limit)
 
 pub get-balance-churn-limit-spec : {M : Type 1} → statement M
 get-balance-churn-limit-spec =

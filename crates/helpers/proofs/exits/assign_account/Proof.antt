@@ -1,6 +1,6 @@
-use mathlib.Core.Path.{ap}
+use mathlib.Core.Path.{ap, _∙_}
 use mathlib.Core.List.{[]}
-use Prim.Native.Nat.{_+_, _≤_, _<_, _^_}
+use Prim.Native.Nat.{ℕ, _+_, _≤_, _<_, _^_}
 use native.Mathlib.Omega.{arith}
 use borrow.Author.Needs.{needs}
 use Rattle.rules.specs.Types.{FAR, BOUND}
@@ -33,8 +33,10 @@ assign-epoch-requires c κs = (c .before .pre .1 .1 .0, omega (arith, near c))
 returns : tie.Need-returns
 returns c = (
   λ t.
-      let e = c .before .compute-activation-exit-epoch .ensures t in
-      cc,
+      let a = c .before .before .args in
+      c .assign-epoch .ensures
+      ∙ ap (λ (e : ℕ). assign-epoch (a .left .0) (a .earliest .0) e (a .churn .0) (a .amount .0))
+      (c .before .compute-activation-exit-epoch .ensures t),
   omega (arith, near (c .before), ap (λ (x : Assignment). x .epoch) (c .assign-epoch .ensures)),
 )
 

@@ -1,7 +1,9 @@
+use mathlib.Core.Path.{ap, _∙_}
 use mathlib.Core.List.{[]}
+use Prim.Native.Nat.{ℕ}
 use native.Mathlib.Omega.{arith}
 use borrow.Author.Needs.{needs}
-use Rattle.rules.specs.Helpers.{compute-exit-epoch-and-update-churn}
+use Rattle.rules.specs.Helpers.{assign-epoch, compute-activation-exit-epoch, compute-exit-epoch-and-update-churn}
 use Rattle.rule_laws.specs.Accepted.{settings-sound}
 use Rattle.rule_laws.specs.Churn.{activation-exit-churn-some}
 use Rattle.primitives.specs.Settings.{settings-of}
@@ -26,11 +28,14 @@ returns : tie.Need-returns
 unfolding compute-exit-epoch-and-update-churn books-of
 returns c = (
   λ ids ds ps cs.
-      let start = c .before .before .before .before .before in
-      let t = tables ids (start .args .validators .now) ds ps cs in
-      let assigned = c .assign-account .ensures .0 t in
-      let churn = c .before .before .before .get-activation-exit-churn-limit .ensures ids ds ps cs in
-      cc,
+      let a = c .before .before .before .before .before .args in
+      let t = tables ids (a .validators .now) ds ps cs in
+      let left = a .scalars .«exit_balance_to_consume» .0 in
+      let earliest = a .scalars .«earliest_exit_epoch» .0 in
+      let activation-exit = compute-activation-exit-epoch (settings-of (a .settings)) (books-of (a .scalars) t) in
+      c .assign-account .ensures .0 t
+      ∙ ap (λ (n : ℕ). assign-epoch left earliest activation-exit n (a .amount .0))
+      (c .before .before .before .get-activation-exit-churn-limit .ensures ids ds ps cs),
   c .assign-account .ensures .1,
 )
 

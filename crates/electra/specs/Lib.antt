@@ -1,0 +1,4 @@
+pub mod Public
+pub mod Rewards
+pub mod Total
+pub mod Epoch

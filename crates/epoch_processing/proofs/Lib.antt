@@ -1,0 +1,2 @@
+pub mod UpdateStep
+pub mod TurnStep

@@ -1,0 +1,3 @@
+pub mod Consolidations
+pub mod Ready
+pub mod Laws

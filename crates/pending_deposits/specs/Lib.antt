@@ -1,0 +1,2 @@
+pub mod Deposits
+pub mod Ready
