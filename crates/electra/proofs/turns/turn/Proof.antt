@@ -7,46 +7,38 @@ use Rattle.electra.specs.Epoch.{settings-true, room-true, books-true, re
 use Rattle.electra.specs.Epoch.{turn-over, turn-late, turn-done}
 use Rattle.electra.specs.Epoch.{registry-there, consolidations-there, queue-there}
 use Rattle.electra.specs.Epoch.{deposits-there, allowance-there}
-use Rattle.electra.proofs.epoch.turn.Statement.{statement}
-use Rattle.electra.proofs.epoch.turn.Tie as tie
-use Rattle.electra.proofs.epoch.turn.Reads as reads
-use Rattle.electra.proofs.epoch.turn.Lts as lts
+use Rattle.electra.proofs.turns.turn.Statement.{statement}
+use Rattle.electra.proofs.turns.turn.Tie as tie
+use Rattle.electra.proofs.turns.turn.Reads as reads
+use Rattle.electra.proofs.turns.turn.Lts as lts
 use Rattle.acceptance.proofs.handed.Reads as handed-reads
 use Rattle.epoch_processing.proofs.turn.Reads as turn-reads
 use Rattle.helpers.proofs.churn.get_activation_exit_churn_limit.Reads as get-activation-exit-churn-limit-reads
 use Rattle.queue_room.proofs.turn_fits.Reads as turn-fits-reads
 
--- src/epoch.rt:178:9
 handed-requires : tie.Need-handed-requires
 handed-requires c κs = search needs
 
--- src/epoch.rt:188:9
 same-length : tie.Need-same-length
 same-length c = search needs
 
--- src/epoch.rt:188:9
 same-length-2 : tie.Need-same-length-2
 same-length-2 c = search needs
 
--- src/epoch.rt:188:9
 same-length-3 : tie.Need-same-length-3
 same-length-3 c = search needs
 
--- src/epoch.rt:188:9
 same-length-4 : tie.Need-same-length-4
 same-length-4 c = search needs
 
--- src/epoch.rt:188:9
 returns : tie.Need-returns
 returns c = handed-refused _ _ _ _ _ (c .before .handed .ensures) (c .if1 .taken)
 
--- src/epoch.rt:193:9
 get-activation-exit-churn-limit-requires : tie.Need-get-activation-exit-churn-limit-requires
 get-activation-exit-churn-limit-requires c κs =
     let h = (sym (c .before .before .handed .ensures) ∙ c .before .if1 .left) in
     (settings-true _ _ _ h, registry-known _ _ _ h)
 
--- src/epoch.rt:194:9
 turn-fits-requires : tie.Need-turn-fits-requires
 turn-fits-requires c κs =
     let h = (sym (c .before .before .before .before .before .before .before .handed .ensures) ∙ c .before .before
@@ -76,23 +68,18 @@ turn-fits-requires c κs =
       ),
     )
 
--- src/epoch.rt:203:9
 same-length-5 : tie.Need-same-length-5
 same-length-5 c = search needs
 
--- src/epoch.rt:203:9
 same-length-6 : tie.Need-same-length-6
 same-length-6 c = search needs
 
--- src/epoch.rt:203:9
 same-length-7 : tie.Need-same-length-7
 same-length-7 c = search needs
 
--- src/epoch.rt:203:9
 same-length-8 : tie.Need-same-length-8
 same-length-8 c = search needs
 
--- src/epoch.rt:203:9
 returns-2 : tie.Need-returns-2
 returns-2 c =
     turn-over _ _ _ (sym (c .before .before .before .before .before .before .before .before .before .handed
@@ -101,23 +88,18 @@ returns-2 c =
     .before .before .before .before .before .before .before .before .args .partials .now)) ∙ not-true _ (c .if2
     .taken))
 
--- src/epoch.rt:209:9
 same-length-9 : tie.Need-same-length-9
 same-length-9 c = search needs
 
--- src/epoch.rt:209:9
 same-length-10 : tie.Need-same-length-10
 same-length-10 c = search needs
 
--- src/epoch.rt:209:9
 same-length-11 : tie.Need-same-length-11
 same-length-11 c = search needs
 
--- src/epoch.rt:209:9
 same-length-12 : tie.Need-same-length-12
 same-length-12 c = search needs
 
--- src/epoch.rt:209:9
 returns-3 : tie.Need-returns-3
 returns-3 c =
     turn-late _ _ _ (sym (c .before .before .before .before .before .before .before .before .before .before .before
@@ -126,7 +108,6 @@ returns-3 c =
     .before .before .before .before .before .before .before .before .before .before .before .before .before .before
     .args .partials .now)) ∙ not-false _ (c .before .before .if2 .left)) (c .if3 .taken)
 
--- src/epoch.rt:214:9
 turn-requires : tie.Need-turn-requires
 turn-requires c κs =
     let h = (sym (c .before .before .before .before .before .before .before .before .before .before .before .before
@@ -171,23 +152,18 @@ turn-requires c κs =
       ),
     )
 
--- src/epoch.rt:161:1
 same-length-13 : tie.Need-same-length-13
 same-length-13 c = search needs
 
--- src/epoch.rt:161:1
 same-length-14 : tie.Need-same-length-14
 same-length-14 c = search needs
 
--- src/epoch.rt:161:1
 same-length-15 : tie.Need-same-length-15
 same-length-15 c = search needs
 
--- src/epoch.rt:161:1
 same-length-16 : tie.Need-same-length-16
 same-length-16 c = search needs
 
--- src/epoch.rt:161:1
 returns-4 : tie.Need-returns-4
 returns-4 c =
     turn-done _ _ _ (sym (c .before .before .before .before .before .before .before .before .before .before .before

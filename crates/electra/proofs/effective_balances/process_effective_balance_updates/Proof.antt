@@ -2,37 +2,31 @@ use mathlib.Core.Path.{_≡_, sym, _∙_}
 use borrow.Author.Needs.{needs}
 use Rattle.electra.specs.Public.{handed-refused}
 use Rattle.electra.specs.Epoch.{settings-true, updates-known, effective-done}
-use Rattle.electra.proofs.epoch.process_effective_balance_updates.Statement.{statement}
-use Rattle.electra.proofs.epoch.process_effective_balance_updates.Tie as tie
-use Rattle.electra.proofs.epoch.process_effective_balance_updates.Reads as reads
-use Rattle.electra.proofs.epoch.process_effective_balance_updates.Lts as lts
+use Rattle.electra.proofs.effective_balances.process_effective_balance_updates.Statement.{statement}
+use Rattle.electra.proofs.effective_balances.process_effective_balance_updates.Tie as tie
+use Rattle.electra.proofs.effective_balances.process_effective_balance_updates.Reads as reads
+use Rattle.electra.proofs.effective_balances.process_effective_balance_updates.Lts as lts
 use Rattle.acceptance.proofs.handed.Reads as handed-reads
 use Rattle.epoch_processing.proofs.effective_balances.process_effective_balance_updates.Reads as
     process-effective-balance-updates-reads
 
--- src/epoch.rt:133:9
 handed-requires : tie.Need-handed-requires
 handed-requires c κs = search needs
 
--- src/epoch.rt:143:9
 same-length : tie.Need-same-length
 same-length c = search needs
 
--- src/epoch.rt:143:9
 returns : tie.Need-returns
 returns c = handed-refused _ _ _ _ _ (c .before .handed .ensures) (c .if1 .taken)
 
--- src/epoch.rt:148:9
 process-effective-balance-updates-requires : tie.Need-process-effective-balance-updates-requires
 process-effective-balance-updates-requires c κs =
     let h = (sym (c .before .before .handed .ensures) ∙ c .before .if1 .left) in
     (settings-true _ _ _ h, updates-known _ _ _ h)
 
--- src/epoch.rt:116:1
 same-length-2 : tie.Need-same-length-2
 same-length-2 c = search needs
 
--- src/epoch.rt:116:1
 returns-2 : tie.Need-returns-2
 returns-2 c =
     effective-done _ _ _ (sym (c .before .before .before .before .before .handed .ensures) ∙ c .before .before

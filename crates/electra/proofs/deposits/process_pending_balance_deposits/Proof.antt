@@ -2,37 +2,31 @@ use mathlib.Core.Path.{_≡_, sym, _∙_}
 use borrow.Author.Needs.{needs}
 use Rattle.electra.specs.Public.{handed-refused}
 use Rattle.electra.specs.Epoch.{settings-true, room-true, books-true, registry-known, deposits-done}
-use Rattle.electra.proofs.epoch.process_pending_balance_deposits.Statement.{statement}
-use Rattle.electra.proofs.epoch.process_pending_balance_deposits.Tie as tie
-use Rattle.electra.proofs.epoch.process_pending_balance_deposits.Reads as reads
-use Rattle.electra.proofs.epoch.process_pending_balance_deposits.Lts as lts
+use Rattle.electra.proofs.deposits.process_pending_balance_deposits.Statement.{statement}
+use Rattle.electra.proofs.deposits.process_pending_balance_deposits.Tie as tie
+use Rattle.electra.proofs.deposits.process_pending_balance_deposits.Reads as reads
+use Rattle.electra.proofs.deposits.process_pending_balance_deposits.Lts as lts
 use Rattle.acceptance.proofs.handed.Reads as handed-reads
 use Rattle.helpers.proofs.churn.get_activation_exit_churn_limit.Reads as get-activation-exit-churn-limit-reads
 use Rattle.pending_deposits.proofs.process_pending_balance_deposits.Reads as process-pending-balance-deposits-reads
 
--- src/epoch.rt:30:9
 handed-requires : tie.Need-handed-requires
 handed-requires c κs = search needs
 
--- src/epoch.rt:40:9
 same-length : tie.Need-same-length
 same-length c = search needs
 
--- src/epoch.rt:40:9
 same-length-2 : tie.Need-same-length-2
 same-length-2 c = search needs
 
--- src/epoch.rt:40:9
 returns : tie.Need-returns
 returns c = handed-refused _ _ _ _ _ (c .before .handed .ensures) (c .if1 .taken)
 
--- src/epoch.rt:45:9
 get-activation-exit-churn-limit-requires : tie.Need-get-activation-exit-churn-limit-requires
 get-activation-exit-churn-limit-requires c κs =
     let h = (sym (c .before .before .handed .ensures) ∙ c .before .if1 .left) in
     (settings-true _ _ _ h, registry-known _ _ _ h)
 
--- src/epoch.rt:46:9
 process-pending-balance-deposits-requires : tie.Need-process-pending-balance-deposits-requires
 process-pending-balance-deposits-requires c κs =
     let h = (sym (c .before .before .before .before .before .handed .ensures) ∙ c .before .before .before .before
@@ -56,15 +50,12 @@ process-pending-balance-deposits-requires c κs =
       ),
     )
 
--- src/epoch.rt:13:1
 same-length-3 : tie.Need-same-length-3
 same-length-3 c = search needs
 
--- src/epoch.rt:13:1
 same-length-4 : tie.Need-same-length-4
 same-length-4 c = search needs
 
--- src/epoch.rt:13:1
 returns-2 : tie.Need-returns-2
 returns-2 c = deposits-done _ _ _ (sym (c .before .before .before .before .before .before .before .before .before
     .before .handed .ensures) ∙ c .before .before .before .before .before .before .before .before .before .if1

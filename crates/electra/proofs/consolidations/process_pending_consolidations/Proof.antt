@@ -4,61 +4,49 @@ use borrow.Author.Tests.{leb-true, not-true, not-false}
 use Rattle.electra.specs.Public.{handed-refused}
 use Rattle.electra.specs.Epoch.{room-true, books-true, consolidations-over, consolidations-done}
 use Rattle.electra.specs.Epoch.{registry-there, consolidations-there, queue-there}
-use Rattle.electra.proofs.epoch.process_pending_consolidations.Statement.{statement}
-use Rattle.electra.proofs.epoch.process_pending_consolidations.Tie as tie
-use Rattle.electra.proofs.epoch.process_pending_consolidations.Reads as reads
-use Rattle.electra.proofs.epoch.process_pending_consolidations.Lts as lts
+use Rattle.electra.proofs.consolidations.process_pending_consolidations.Statement.{statement}
+use Rattle.electra.proofs.consolidations.process_pending_consolidations.Tie as tie
+use Rattle.electra.proofs.consolidations.process_pending_consolidations.Reads as reads
+use Rattle.electra.proofs.consolidations.process_pending_consolidations.Lts as lts
 use Rattle.acceptance.proofs.handed.Reads as handed-reads
 use Rattle.pending_consolidations.proofs.process_pending_consolidations.Reads as process-pending-consolidations-reads
 use Rattle.queue_room.proofs.consolidations_fit.Reads as consolidations-fit-reads
 
--- src/epoch.rt:80:9
 handed-requires : tie.Need-handed-requires
 handed-requires c κs = search needs
 
--- src/epoch.rt:90:9
 same-length : tie.Need-same-length
 same-length c = search needs
 
--- src/epoch.rt:90:9
 same-length-2 : tie.Need-same-length-2
 same-length-2 c = search needs
 
--- src/epoch.rt:90:9
 same-length-3 : tie.Need-same-length-3
 same-length-3 c = search needs
 
--- src/epoch.rt:90:9
 same-length-4 : tie.Need-same-length-4
 same-length-4 c = search needs
 
--- src/epoch.rt:90:9
 returns : tie.Need-returns
 returns c = handed-refused _ _ _ _ _ (c .before .handed .ensures) (c .if1 .taken)
 
--- src/epoch.rt:95:9
 consolidations-fit-requires : tie.Need-consolidations-fit-requires
 consolidations-fit-requires c κs =
     let h = (sym (c .before .before .before .before .handed .ensures) ∙ c .before .before .before .if1 .left) in
     (registry-there _ _ _ h, (consolidations-there _ _ _ h, queue-there _ _ _ h))
 
--- src/epoch.rt:96:9
 same-length-5 : tie.Need-same-length-5
 same-length-5 c = search needs
 
--- src/epoch.rt:96:9
 same-length-6 : tie.Need-same-length-6
 same-length-6 c = search needs
 
--- src/epoch.rt:96:9
 same-length-7 : tie.Need-same-length-7
 same-length-7 c = search needs
 
--- src/epoch.rt:96:9
 same-length-8 : tie.Need-same-length-8
 same-length-8 c = search needs
 
--- src/epoch.rt:96:9
 returns-2 : tie.Need-returns-2
 returns-2 c =
     consolidations-over _ _ _ (sym (c .before .before .before .before .before .before .handed .ensures) ∙ c .before
@@ -68,7 +56,6 @@ returns-2 c =
     .before .before .before .before .before .before .before .before .before .before .before .before .before .before
     .args .partials .now)) ∙ not-true _ (c .if2 .taken))
 
--- src/epoch.rt:101:9
 process-pending-consolidations-requires : tie.Need-process-pending-consolidations-requires
 process-pending-consolidations-requires c κs =
     let h = (sym (c .before .before .before .before .before .before .before .before .before .before .handed
@@ -86,23 +73,18 @@ process-pending-consolidations-requires c κs =
       ),
     )
 
--- src/epoch.rt:63:1
 same-length-9 : tie.Need-same-length-9
 same-length-9 c = search needs
 
--- src/epoch.rt:63:1
 same-length-10 : tie.Need-same-length-10
 same-length-10 c = search needs
 
--- src/epoch.rt:63:1
 same-length-11 : tie.Need-same-length-11
 same-length-11 c = search needs
 
--- src/epoch.rt:63:1
 same-length-12 : tie.Need-same-length-12
 same-length-12 c = search needs
 
--- src/epoch.rt:63:1
 returns-3 : tie.Need-returns-3
 returns-3 c =
     consolidations-done _ _ _ (sym (c .before .before .before .before .before .before .before .before .before

@@ -8,10 +8,10 @@ use Rattle.records.specs.Books.{Tables, tables, books-of}
 use Rattle.electra.specs.Public.{handed-refused}
 use Rattle.electra.specs.Rewards.{in-table, held-known, held-small, balance-fits}
 use Rattle.electra.specs.Rewards.{reward-unknown, reward-over, reward-done}
-use Rattle.electra.proofs.rewards.reward.Statement.{statement}
-use Rattle.electra.proofs.rewards.reward.Tie as tie
-use Rattle.electra.proofs.rewards.reward.Reads as reads
-use Rattle.electra.proofs.rewards.reward.Lts as lts
+use Rattle.electra.proofs.reward.reward.Statement.{statement}
+use Rattle.electra.proofs.reward.reward.Tie as tie
+use Rattle.electra.proofs.reward.reward.Reads as reads
+use Rattle.electra.proofs.reward.reward.Lts as lts
 use Rattle.acceptance.proofs.handed.Reads as handed-reads
 use Rattle.acceptance.proofs.held.Reads as held-reads
 use Rattle.records.proofs.registry.increase_balance.Reads as increase-balance-reads
@@ -39,43 +39,34 @@ summed c = (
       .before .before .before .before .before .before .if1 .left),
 )
 
--- src/rewards.rt:33:9
 handed-requires : tie.Need-handed-requires
 handed-requires c κs = search needs
 
--- src/rewards.rt:43:9
 same-length : tie.Need-same-length
 same-length c = search needs
 
--- src/rewards.rt:43:9
 returns : tie.Need-returns
 returns c = handed-refused _ _ _ _ _ (c .before .handed .ensures) (c .if1 .taken)
 
--- src/rewards.rt:49:9
 same-length-2 : tie.Need-same-length-2
 same-length-2 c = search needs
 
--- src/rewards.rt:49:9
 returns-2 : tie.Need-returns-2
 returns-2 c =
     reward-unknown _ _ _ _ _ (sym (c .before .before .before .before .handed .ensures) ∙ c .before .before .before
     .if1 .left) (c .if2 .taken)
 
--- src/rewards.rt:54:9
 held-requires : tie.Need-held-requires
 held-requires c κs =
     held-known _ _ _ 0 0 (sym (c .before .before .before .before .before .handed .ensures) ∙ c .before .before
     .before .before .if1 .left)
 
--- src/rewards.rt:55:8
 sub-if3 : tie.Need-sub-if3
 sub-if3 c = omega (arith, summed c .0, summed c .1)
 
--- src/rewards.rt:56:9
 same-length-3 : tie.Need-same-length-3
 same-length-3 c = search needs
 
--- src/rewards.rt:56:9
 returns-3 : tie.Need-returns-3
 returns-3 c =
     let s = summed (c .before .before) in
@@ -87,7 +78,6 @@ returns-3 c =
     .ensures) ∙ c .before .before .before .before .before .before .before .before .if1 .left) (c .before .before
     .before .before .before .if2 .left) over
 
--- src/rewards.rt:61:5
 increase-balance-requires : tie.Need-increase-balance-requires
 increase-balance-requires c κs =
     let s = summed (c .before .before .before) in
@@ -104,11 +94,9 @@ increase-balance-requires c κs =
           within,
     )
 
--- src/rewards.rt:14:1
 same-length-4 : tie.Need-same-length-4
 same-length-4 c = search needs
 
--- src/rewards.rt:14:1
 returns-4 : tie.Need-returns-4
 returns-4 c =
     let s = summed (c .before .before .before .before .before .before) in
