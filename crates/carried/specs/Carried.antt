@@ -22,13 +22,13 @@ pub data Carried (S : Settings) : Scalars → Tables → List Call → List ℕ 
       → Carried S s t (call-on t op ∷ cs) (n ∷ ns) r u
 
 -- the answers and the books reached are those of the definitions
-pub carried-answers : {S : Settings} {s : Scalars} {t : Tables} {cs : List Call} {ns : List ℕ} {r : Scalars} {u : Tables}
+pub carried-answers : {S : Settings} {s r : Scalars} {t u : Tables} {cs : List Call} {ns : List ℕ}
     → Carried S s t cs ns r u → ns ≡ answers S (books-of s t) cs
 carried-answers none = refl
 carried-answers {S} (next {s} {t} {op} {n} c s₂ t₂ e {cs} {ns} more) =
     ap₂ _∷_ (c .number) (carried-answers more ∙ ap (λ b. answers S b cs) (e ∙ c .books))
 
-pub carried-books : {S : Settings} {s : Scalars} {t : Tables} {cs : List Call} {ns : List ℕ} {r : Scalars} {u : Tables}
+pub carried-books : {S : Settings} {s r : Scalars} {t u : Tables} {cs : List Call} {ns : List ℕ}
     → Carried S s t cs ns r u → books-of r u ≡ run S (books-of s t) cs
 carried-books none = refl
 carried-books {S} (next {s} {t} {op} {n} c s₂ t₂ e {cs} {ns} more) =
@@ -42,8 +42,8 @@ pub record Demand3Carried (S : Settings) (opening : Books) (cs : List Call) (clo
   pub spent : deposit-amounts (counted S opening cs .credited)
       ≤ opening .deposit-balance-to-consume + counted S opening cs .allowance
 
-pub demand-3-carried : {S : Settings} {s : Scalars} {t : Tables} {cs : List Call} {ns : List ℕ} {r : Scalars} {u : Tables}
+pub demand-3-carried : {S : Settings} {s r : Scalars} {t u : Tables} {cs : List Call} {ns : List ℕ}
     → Carried S s t cs ns r u → Demand3Carried S (books-of s t) cs (books-of r u)
-demand-3-carried {S} {s} {t} {cs} c =
+demand-3-carried {S} {s} {t = t} {cs = cs} c =
     let d = demand-3 S (books-of s t) cs in
     rw (carried-books c) (record { sums = d .sums; order = d .order; spent = d .spent })

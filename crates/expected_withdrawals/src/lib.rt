@@ -49,7 +49,7 @@ fn min_usize(a: usize, b: usize) -> usize
 }
 
 impl ExpectedWithdrawals {
-    fn none() -> ExpectedWithdrawals
+    pub fn none() -> ExpectedWithdrawals
         ensures { λ r. ⌜ r ≡ no-withdrawals ⌝ }
     {
         let blank = Withdrawal {
