@@ -1,5 +1,5 @@
-// The edges of the turn, its steps and the epoch assignment, run through the public calls on the mainnet row. One line
-// an edge: the answer, then what the edge is about. The expected output stands in the file stdout.
+// Edges run through the public calls on the mainnet row. One line an edge: the answer, then what the edge is about. The
+// expected output stands in the file stdout.
 use helpers::assignment;
 use libc::STDOUT_FILENO;
 use primitives::BOUND;
@@ -239,6 +239,94 @@ fn penalty(amount: u64) {
     end();
 }
 
+// A waiting partial withdrawal of 5 G, effective balance 32 G, this balance: the list that is expected.
+fn expected(balance: u64) {
+    io::write_all(STDOUT_FILENO, b"expected");
+    let ids = identities(2);
+    let vs = validators(balance);
+    let ds = [0u64; 8];
+    let ps: [u64; 3] = [0, 5 * G, 1000];
+    let cs = [0u64; 4];
+    let e = operations::expected::get_expected_withdrawals(
+        Settings::mainnet(2, 4, 1, 2),
+        scalars(0, 0).with_partials(1),
+        &ids,
+        &vs,
+        &ds,
+        &ps,
+        &cs,
+    );
+    number(e.number as u64);
+    let listed = e.withdrawals;
+    number(listed.count as u64);
+    let list = listed.list;
+    let w = list[0];
+    number(w.validator_index.0 as u64);
+    number(w.amount.0);
+    end();
+}
+
+// The partial queue is full with the second validator's entry; the first, whose key ends in 1, asks for this amount.
+fn request(amount: u64) {
+    io::write_all(STDOUT_FILENO, b"request");
+    let mut ids = identities(2);
+    ids[47] = 1;
+    let mut vs = validators(40 * G);
+    let ds = [0u64; 8];
+    let mut ps: [u64; 3] = [1, 1, 1000];
+    let cs = [0u64; 4];
+    let mut key = [0u8; 48];
+    key[47] = 1;
+    let r = operations::withdrawal_requests::process_execution_layer_withdrawal_request(
+        Settings::mainnet(2, 4, 1, 2),
+        scalars(0, 0).with_partials(1),
+        &ids,
+        &mut vs,
+        &ds,
+        &mut ps,
+        &cs,
+        [0u8; 20],
+        key,
+        Gwei(amount),
+    );
+    number(r.number as u64);
+    number(vs[4]);
+    let s = r.scalars;
+    number(s.partials as u64);
+    end();
+}
+
+// The first validator into the second, with a minimum churn of 320 G, which leaves 64 G to consolidations.
+fn consolidation(epoch: u64) {
+    io::write_all(STDOUT_FILENO, b"consolidation");
+    let mut row = primitives::MAINNET;
+    row[3] = 320 * G;
+    let ids = identities(1);
+    let mut vs = validators(32 * G);
+    let ds = [0u64; 8];
+    let ps = [0u64; 3];
+    let mut cs = [0u64; 4];
+    let r = operations::consolidations::process_consolidation(
+        Settings::from_row(row, 2, 4, 1, 2),
+        scalars(0, 0),
+        &ids,
+        &mut vs,
+        &ds,
+        &ps,
+        &mut cs,
+        ValidatorIndex(0),
+        ValidatorIndex(1),
+        Epoch(epoch),
+        true,
+    );
+    number(r.number as u64);
+    number(vs[4]);
+    number(vs[5]);
+    let s = r.scalars;
+    number(s.consolidation_balance_to_consume.0);
+    end();
+}
+
 fn main() {
     assign(32 * G, 128 * G);
     assign(32 * G + 1, 128 * G);
@@ -261,4 +349,10 @@ fn main() {
     reward(0, BOUND - 72 * G + 1);
     penalty(G);
     penalty(FAR_FUTURE_EPOCH);
+    expected(33 * G);
+    expected(32 * G);
+    request(1);
+    request(0);
+    consolidation(1000);
+    consolidation(1001);
 }
