@@ -37,7 +37,7 @@ same-length-4 c = search needs
 
 -- src/consolidations.rt:14:1
 returns-2 : tie.Need-returns-2
-returns-2 c = search needs
+returns-2 c = c .before .before .before .before .process-consolidation .ensures
 
 pub process-consolidation-spec : {M : Type 1} → statement M
 process-consolidation-spec =

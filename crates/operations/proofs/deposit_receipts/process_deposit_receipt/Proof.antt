@@ -45,7 +45,7 @@ same-length-6 c = search needs
 
 -- src/deposit_receipts.rt:13:1
 returns-2 : tie.Need-returns-2
-returns-2 c = search needs
+returns-2 c = c .before .before .before .before .before .before .process-deposit-receipt .ensures
 
 pub process-deposit-receipt-spec : {M : Type 1} → statement M
 process-deposit-receipt-spec =

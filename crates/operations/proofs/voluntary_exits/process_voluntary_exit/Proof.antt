@@ -29,7 +29,7 @@ same-length-2 c = search needs
 
 -- src/voluntary_exits.rt:14:1
 returns-2 : tie.Need-returns-2
-returns-2 c = search needs
+returns-2 c = c .before .before .process-voluntary-exit .ensures
 
 pub process-voluntary-exit-spec : {M : Type 1} → statement M
 process-voluntary-exit-spec =

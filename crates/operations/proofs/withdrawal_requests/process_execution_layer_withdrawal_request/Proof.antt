@@ -41,7 +41,7 @@ same-length-4 c = search needs
 
 -- src/withdrawal_requests.rt:13:1
 returns-2 : tie.Need-returns-2
-returns-2 c = search needs
+returns-2 c = c .before .before .before .before .process-execution-layer-withdrawal-request .ensures
 
 pub process-execution-layer-withdrawal-request-spec : {M : Type 1} → statement M
 process-execution-layer-withdrawal-request-spec =
