@@ -1,5 +1,5 @@
-// Edges run through the public calls on the mainnet row. One line an edge: the answer, then what the edge is about. The
-// expected output stands in the file stdout.
+// Edges run through the public calls on the mainnet row, but for one with another minimum churn. One line an edge: the
+// answer, then what the edge is about. The expected output stands in the file stdout.
 use helpers::assignment;
 use libc::STDOUT_FILENO;
 use primitives::BOUND;
