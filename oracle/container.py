@@ -1,4 +1,4 @@
-"""The container of the recorded data, as crates/replay/data/README.md describes it."""
+"""The container of the recorded data, as oracle/recorded/README.md describes it."""
 
 import struct
 from dataclasses import dataclass

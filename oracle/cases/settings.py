@@ -1,7 +1,7 @@
 """Settings: each fault by itself, and each bound reached but not passed."""
 
 from cases.common import books, case, chain, credentials, key, validator
-from file_format import FAR, G, TURN, leave, receipt
+from file_format import CHAIN_NAMES, FAR, G, TURN, leave, receipt
 
 TOP_BALANCE = 2**44
 TOP_COUNT = 2**16
@@ -28,19 +28,8 @@ def faults():
         "partials_above_payload": chain(partials=9, payload=8),
         "payload_17": chain(payload=17),
     }
-    names = (
-        "churn_quotient",
-        "shard_period",
-        "delay",
-        "lookahead",
-        "hysteresis_quotient",
-        "hysteresis_down",
-        "hysteresis_up",
-        "partials",
-        "payload",
-        "sweep",
-    )
-    for name in names:
+    # The five amounts come first; what follows are the counts.
+    for name in CHAIN_NAMES[5:]:
         found[name + "_over"] = chain(**{name: TOP_COUNT + 1})
     return found
 
