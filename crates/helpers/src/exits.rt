@@ -1,5 +1,5 @@
-// The churn accounts of exits and consolidations, and the exit of a validator. An account is made of its two scalars and
-// lent in `churn_account`; it is handed on by value, so that a caller can judge its epochs before the first store.
+// The churn accounts of exits and consolidations, and the exit of a validator. An account is made of its two scalars
+// and lent in `churn_account`; it is handed on by value, so that a caller can judge its epochs before the first store.
 use crate::assignment::Assignment;
 use primitives::Epoch;
 use primitives::FAR_FUTURE_EPOCH;

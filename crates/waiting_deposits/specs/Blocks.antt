@@ -126,7 +126,7 @@ pub record Walking (available m : ℕ) (g : ℕ → rule.PendingBalanceDeposit) 
 pub walking-none : (available m : ℕ) (g : ℕ → rule.PendingBalanceDeposit) → Walking available m g 0 available
 walking-none available m g = record { reached = omega arith; count = omega arith; rest = refl }
 
-take-rows : {A : Type 0} (c n : ℕ) (g : ℕ → A) → c ≤ n → take c (rows n g) ≡ rows c g
+pub take-rows : {A : Type 0} (c n : ℕ) (g : ℕ → A) → c ≤ n → take c (rows n g) ≡ rows c g
 unfolding rows
 take-rows zero n g h = refl
 take-rows (suc c) zero g h = absurd (not-suc-le-zero h)
@@ -186,13 +186,12 @@ module _ {available m : ℕ} {g : ℕ → rule.PendingBalanceDeposit} {next left
           let enough : deposit-amounts xs ≤ left = omega (arith, spent, affordable-limit left 0 xs (omega arith)) in
           let after : rest ≡ left - deposit-amounts xs = is .left ∙ ap (λ n. left - n) spent in
           let none : 0 + deposit-amounts xs ≡ deposit-amounts xs = omega arith in
+          let later : affordable left (0 + deposit-amounts xs) ys ≡ affordable rest 0 ys =
+          rw (none, after) (spent-off left (deposit-amounts xs) ys enough) in
           let further : affordable left 0 (drop next (rows m g)) ≡ xs ++ affordable rest 0 ys =
-          ap (affordable left 0) parts ∙ both .1
-          ∙ rw (none, spent-off left (deposit-amounts xs) ys enough, ← after) in
+          ap (affordable left 0) parts ∙ both .1 ∙ ap (λ l. xs ++ l) later in
           let sizes = ap length further ∙ length-append xs (affordable rest 0 ys) in
           let sums = ap deposit-amounts further ∙ total-append (λ d. d .amount) xs (affordable rest 0 ys) in
-          rw all (record {
-            reached = few;
-            count = omega (arith, w .count, sizes, size);
-            rest = w .rest ∙ omega (arith, sums, after, enough);
-          })
+          let same : left - deposit-amounts (affordable left 0 (drop next (rows m g)))
+          ≡ rest - deposit-amounts (affordable rest 0 ys) = omega (arith, sums, after, enough) in
+          rw all (record { reached = few; count = omega (arith, w .count, sizes, size); rest = w .rest ∙ same })

@@ -1,6 +1,7 @@
 // Waiting deposits as a lent slice of records: how many of them a sum pays for, in order, and what is left of it.
 // `credit` judges one deposit; `affordable` walks the slice; `affordable_of` holds up to sixteen deposits by value and
-// lends them, so that whoever calls it needs no reference to records; `affordable_deposits` reads a table in such blocks.
+// lends them, so that whoever calls it needs no reference to records; `affordable_deposits` reads a table in such
+// blocks.
 use primitives::Gwei;
 use primitives::ValidatorIndex;
 use records::queues::PendingBalanceDeposit;
