@@ -10,6 +10,9 @@ pub record Line : Type 0 where
   pub answer : ℕ
   pub total : ℕ
 
+abbrev pub line : (code answer total : ℕ) → Line
+line code answer total = record { code = code; answer = answer; total = total }
+
 abbrev pub line-words : Line → List ℕ
 line-words l = l .code ∷ l .answer ∷ l .total ∷ []
 
@@ -21,7 +24,7 @@ lines-words (l ∷ ls) = line-words l ++ lines-words ls
 -- ---- a buffer read as lines
 
 abbrev pub line-at : List ℕ → ℕ → Line
-line-at ws i = record { code = getD ws (3 * i) 0; answer = getD ws (3 * i + 1) 0; total = getD ws (3 * i + 2) 0 }
+line-at ws i = line (getD ws (3 * i) 0) (getD ws (3 * i + 1) 0) (getD ws (3 * i + 2) 0)
 
 -- the first n lines
 abbrev pub lines-of : List ℕ → ℕ → List Line

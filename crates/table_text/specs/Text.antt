@@ -13,21 +13,24 @@ ascii no-text = []
 ascii (c then s) = code c ∷ ascii s
 
 -- the last digits of n in decimal, as many as the width: n itself, filled with zeros, where it has no more
-abbrev pub decimal : (width n : ℕ) → List ℕ
+unfoldable pub decimal : (width n : ℕ) → List ℕ
 decimal zero n = []
 decimal (suc width) n = decimal width (n / 10) ++ ((48 + n % 10) ∷ [])
+
+abbrev pub space : ℕ
+space = 32
+
+abbrev pub newline : ℕ
+newline = 10
+
+-- a number, and the byte behind it
+unfoldable pub field : (width n behind : ℕ) → List ℕ
+field width n behind = decimal width n ++ (behind ∷ [])
 
 -- position, code, answer, total
 unfoldable pub text-line : ℕ → Line → List ℕ
 text-line position l =
-    decimal 4 position
-    ++ ascii " "
-    ++ decimal 2 (l .code)
-    ++ ascii " "
-    ++ decimal 2 (l .answer)
-    ++ ascii " "
-    ++ decimal 20 (l .total)
-    ++ ascii "\n"
+    field 4 position space ++ field 2 (l .code) space ++ field 2 (l .answer) space ++ field 20 (l .total) newline
 
 -- one line a call, with positions from the first on
 unfoldable pub text-lines : ℕ → List Line → List ℕ
@@ -38,7 +41,7 @@ unfoldable pub table-text : List Line → List ℕ
 table-text ls = ascii "call code answer total\n" ++ text-lines 1 ls
 
 unfoldable pub refused-text : ℕ → List ℕ
-refused-text n = ascii "refused " ++ decimal 2 n ++ ascii "\n"
+refused-text n = ascii "refused " ++ field 2 n newline
 
 -- a text put at the start of a lent buffer: its length is answered, and behind it the buffer holds what it held
 pub record Printed (text before after : List ℕ) (r : ℕ) : Type 0 where
