@@ -1,10 +1,10 @@
 -- What a program that carries out the calls of a file goes by: it takes one call after another, as many as the count
 -- says, and each begins where the last one ended. ws are the words of the file; n calls are left from word k on.
 use mathlib.Core.Path.{_≡_, refl, sym, ap, _∙_}
-use mathlib.Core.Bool.{Bool, true, _&&_}
+use mathlib.Core.Bool.{true, _&&_}
 use mathlib.Core.List.{List, [], _∷_}
 use mathlib.Core.Option.{some}
-use Prim.Native.Nat.{ℕ, zero, suc, _+_, _-_, _%_, _≤_, _<_}
+use Prim.Native.Nat.{ℕ, suc, _+_, _-_, _%_, _≤_, _<_}
 use native.Mathlib.Omega.{arith}
 use lib.ListN.{length, getD, drop, length-drop}
 use lib.Seq.{drop-drop}
@@ -12,7 +12,7 @@ use lib.Dec.{eqb}
 use Rattle.lists.specs.Laws.{both, if-true}
 use Rattle.rules.specs.Calls.{Operation}
 use Rattle.file_format.specs.Words.{word, calls-head, payload, is-word, words}
-use Rattle.file_format.specs.Fields.{Format, many}
+use Rattle.file_format.specs.Fields.{many}
 use Rattle.file_format.specs.File.{ends, file-ok, read-file, read-calls}
 use Rattle.file_format.specs.Places.{count-at}
 use Rattle.file_format.specs.Calls.{call, calls-limit, calls-format}

@@ -1,7 +1,7 @@
 -- The facts that the functions are proved by which hand out what a call holds.
 use mathlib.Core.Path.{_≡_, refl, sym, ap, _∙_}
-use mathlib.Core.Bool.{Bool, true, _&&_}
-use mathlib.Core.List.{List, [], _∷_, _++_, map}
+use mathlib.Core.Bool.{Bool, true}
+use mathlib.Core.List.{List, [], _∷_, map}
 use Prim.Native.Nat.{ℕ, zero, suc, _+_, _*_, _≤_, _<_}
 use native.Mathlib.Nat.{le-of-suc-le-suc, not-suc-le-zero}
 use native.Mathlib.Numerals.{add-one}
@@ -12,7 +12,7 @@ use lib.Dec.{eqb}
 use Rattle.lists.specs.Laws.{both}
 use Rattle.tables.specs.Rows.{rows, rows-snoc, length-rows}
 use Rattle.rules.specs.Types as rule
-use Rattle.rules.specs.Calls.{Operation, reward, penalty, deposit-receipt, voluntary-exit, withdrawal-request}
+use Rattle.rules.specs.Calls.{reward, penalty, deposit-receipt, voluntary-exit, withdrawal-request}
 use Rattle.rules.specs.Calls.{consolidation, withdrawals}
 use Rattle.expected_withdrawals.specs.Expected.{plain-withdrawal, coded-withdrawal, padded, sixteen, no-withdrawals}
 use Rattle.expected_withdrawals.specs.Expected.{handed-list}

@@ -5,11 +5,11 @@ use mathlib.Core.List.{List}
 use Prim.Native.Nat.{ℕ, zero, suc, _+_, _-_, _*_, _%_, _^_, _≤_, _<_}
 use native.Mathlib.Nat.{sub-zero}
 use native.Mathlib.Omega.{arith}
-use lib.ListN.{length, getD, drop, length-drop}
+use lib.ListN.{length, getD, drop}
 use lib.Seq.{drop-drop}
 use lib.Dec.{eqb}
 use borrow.Author.Tests.{not-true, not-false}
-use Rattle.lists.specs.Laws.{both, and-true, and-false}
+use Rattle.lists.specs.Laws.{and-true}
 use Rattle.file_format.specs.Words.{words, payload, is-word}
 use Rattle.file_format.specs.Fields.{Format, _⊗_, number, flag, field, many}
 use Rattle.file_format.specs.File.{ends, file-ok}
@@ -21,7 +21,7 @@ use Rattle.file_format.specs.AccessLaws.{Fixed, fixed-at, fixed-number, fixed-k
 use Rattle.file_format.specs.AccessLaws.{getD-at, and-assoc}
 use Rattle.calls_reader.specs.Widths.{behind, fields-width, code-at, next-place, call-ok-at}
 use Rattle.calls_reader.specs.Widths.{next-rest, next-within, next-near}
-use Rattle.calls_reader.specs.Calls.{calls-ok-at, calls-rest-at, others-behind}
+use Rattle.calls_reader.specs.Calls.{calls-ok-at, calls-rest-at}
 
 -- ---- one field after another: F of n words at word k, then G at word m
 

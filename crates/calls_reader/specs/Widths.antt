@@ -1,15 +1,12 @@
 -- The fields of each call by places: how many words they take, and so where the next call begins.
 use mathlib.Core.Path.{_≡_, refl, sym, ap, _∙_}
-use mathlib.Core.Bool.{Bool, true, _&&_}
+use mathlib.Core.Bool.{true, _&&_}
 use mathlib.Core.List.{List, [], _∷_}
 use Prim.Native.Nat.{ℕ, zero, suc, _+_, _*_, _≤_, _<_}
 use native.Mathlib.Omega.{arith}
 use lib.ListN.{length, getD, drop, length-drop}
 use lib.Seq.{drop-drop}
-use lib.Dec.{ltb}
-use borrow.Author.Tests.{ltb-true}
 use Rattle.lists.specs.Laws.{both}
-use Rattle.rules.specs.Calls.{Operation}
 use Rattle.file_format.specs.Words.{payload, is-word}
 use Rattle.file_format.specs.Fields.{Format, many}
 use Rattle.file_format.specs.Places.{count-at}
