@@ -1,0 +1,106 @@
+-- What the passes over the lists of a books file show, and sound books: the laws of acceptance's Sound, of these lists.
+use mathlib.Core.Path.{_≡_, refl, sym, ap, _∙_}
+use mathlib.Core.Bool.{Bool, true, false}
+use mathlib.Core.List.{List}
+use Prim.Native.Nat.{ℕ, _+_, _≤_, _<_}
+use lib.ListN.{drop}
+use Rattle.lists.specs.Base.{every}
+use Rattle.tables.specs.Rows.{rows, length-rows}
+use Rattle.rules.specs.Types.{BOUND, Settings, Validator}
+use Rattle.rules.specs.Types.{PendingBalanceDeposit, PendingPartialWithdrawal, PendingConsolidation}
+use Rattle.rules.specs.Acceptance.{sound-books, consolidation-in}
+use Rattle.primitives.specs.declared.Scalars.{Scalars}
+use Rattle.acceptance.specs.Tests.{scalars-within}
+use Rattle.acceptance.specs.Sound as lists
+use Rattle.acceptance.specs.Sound.{books-with, Counted, BalancesSum, HeldSum, PartialsSum}
+use Rattle.file_format.specs.Books.{validator, deposit, partial, consolidation}
+use Rattle.file_format.specs.Places.{count-at, number-at, listed, books-at}
+use Rattle.file_format.specs.Places.{deposits-place, partials-place, consolidations-place}
+use Rattle.file_records.specs.Scalars.{scalars-at}
+use Rattle.file_records.specs.Laws.{validator-there}
+
+-- ---- the balance of a validator at word k
+
+pub balance-there : (ws : List ℕ) (k : ℕ) → number-at ws (k + 43) ≡ validator .value (drop k ws) .balance
+balance-there ws k = sym (ap (λ v. v .balance) (validator-there ws k))
+
+-- ---- the counts, from the scalars
+
+module _ (ws : List ℕ) {s : Scalars} (e : s ≡ scalars-at ws) where
+  pub validators-counted : s .validators ≡ count-at ws 85
+  unfolding scalars-at
+  validators-counted = ap (λ x. x .validators) e
+
+  pub deposits-counted : s .deposits ≡ count-at ws (deposits-place ws)
+  unfolding scalars-at
+  deposits-counted = ap (λ x. x .deposits) e
+
+  pub partials-counted : s .partials ≡ count-at ws (partials-place ws)
+  unfolding scalars-at
+  partials-counted = ap (λ x. x .partials) e
+
+  pub consolidations-counted : s .consolidations ≡ count-at ws (consolidations-place ws)
+  unfolding scalars-at
+  consolidations-counted = ap (λ x. x .consolidations) e
+
+-- ---- the lists
+
+abbrev pub file-validators : List ℕ → List Validator
+file-validators ws = listed validator 46 85 ws
+
+abbrev pub file-deposits : List ℕ → List PendingBalanceDeposit
+file-deposits ws = listed deposit 6 (deposits-place ws) ws
+
+abbrev pub file-partials : List ℕ → List PendingPartialWithdrawal
+file-partials ws = listed partial 9 (partials-place ws) ws
+
+abbrev pub file-consolidations : List ℕ → List PendingConsolidation
+file-consolidations ws = listed consolidation 6 (consolidations-place ws) ws
+
+module _ (S : Settings) (ws : List ℕ) {s : Scalars} (e : s ≡ scalars-at ws) where
+  counted : Counted s (file-validators ws) (file-deposits ws) (file-partials ws) (file-consolidations ws)
+  counted = record {
+    validators = length-rows _ _ ∙ sym (validators-counted ws e);
+    deposits = length-rows _ _ ∙ sym (deposits-counted ws e);
+    partials = length-rows _ _ ∙ sym (partials-counted ws e);
+    consolidations = length-rows _ _ ∙ sym (consolidations-counted ws e);
+  }
+
+  same-books : books-with (scalars-at ws) (file-validators ws) (file-deposits ws) (file-partials ws)
+      (file-consolidations ws)
+      ≡ books-at ws
+  unfolding scalars-at rows
+  same-books = refl
+
+  abbrev with-scalars : Scalars → Bool
+  with-scalars x =
+      sound-books S
+      (books-with x (file-validators ws) (file-deposits ws) (file-partials ws) (file-consolidations ws))
+
+  same-sound : with-scalars s ≡ sound-books S (books-at ws)
+  same-sound = ap with-scalars e ∙ ap (sound-books S) same-books
+
+  pub scalars-refused : scalars-within S s ≡ false → false ≡ sound-books S (books-at ws)
+  scalars-refused h = lists.scalars-refused S s _ _ _ _ counted h ∙ same-sound
+
+  pub balances-refused : (sum : ℕ) → BalancesSum S (file-validators ws) sum → BOUND < sum
+      → false ≡ sound-books S (books-at ws)
+  balances-refused sum b h = lists.balances-refused S s _ _ _ _ counted sum b h ∙ same-sound
+
+  pub held-refused : (start sum : ℕ) → BalancesSum S (file-validators ws) start
+      → HeldSum s (file-deposits ws) start sum → BOUND < sum → false ≡ sound-books S (books-at ws)
+  held-refused start sum b d h = lists.held-refused S s _ _ _ _ counted start sum b d h ∙ same-sound
+
+  pub partials-refused : (sum : ℕ) → PartialsSum s (file-partials ws) sum → BOUND < sum
+      → false ≡ sound-books S (books-at ws)
+  partials-refused sum p h = lists.partials-refused S s _ _ _ _ counted sum p h ∙ same-sound
+
+  -- the passes before the last found nothing: the last decides
+  pub consolidations-decide : (start sum amounts : ℕ) (last : Bool) → scalars-within S s ≡ true
+      → BalancesSum S (file-validators ws) start → start ≤ BOUND → HeldSum s (file-deposits ws) start sum → sum ≤ BOUND
+      → PartialsSum s (file-partials ws) amounts → amounts ≤ BOUND
+      → last ≡ every (consolidation-in (s .validators)) (file-consolidations ws)
+      → last ≡ sound-books S (books-at ws)
+  consolidations-decide start sum amounts last w b b-small d d-small p p-small c =
+      lists.consolidations-decide S s _ _ _ _ counted start sum amounts last w b b-small d d-small p p-small c
+      ∙ same-sound
