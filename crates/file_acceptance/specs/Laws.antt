@@ -1,25 +1,36 @@
 -- What the passes over the lists of a books file show, and sound books: the laws of acceptance's Sound, of these lists.
 use mathlib.Core.Path.{_≡_, refl, sym, ap, _∙_}
-use mathlib.Core.Bool.{Bool, true, false}
+use mathlib.Core.Bool.{Bool, true, false, _&&_}
 use mathlib.Core.List.{List}
 use Prim.Native.Nat.{ℕ, _+_, _≤_, _<_}
+use lib.Dec.{leb}
 use lib.ListN.{drop}
 use Rattle.lists.specs.Base.{every}
 use Rattle.tables.specs.Rows.{rows, length-rows}
 use Rattle.rules.specs.Types.{BOUND, Settings, Validator}
 use Rattle.rules.specs.Types.{PendingBalanceDeposit, PendingPartialWithdrawal, PendingConsolidation}
-use Rattle.rules.specs.Acceptance.{sound-books, consolidation-in}
+use Rattle.rules.specs.Acceptance.{sound-books, epoch-within, consolidation-in}
 use Rattle.primitives.specs.declared.Scalars.{Scalars}
-use Rattle.acceptance.specs.Tests.{scalars-within}
+use Rattle.acceptance.specs.Tests.{validator-within, scalars-within}
 use Rattle.acceptance.specs.Sound as lists
 use Rattle.acceptance.specs.Sound.{books-with, Counted, BalancesSum, HeldSum, PartialsSum}
+use Rattle.file_format.specs.Fields.{flag}
 use Rattle.file_format.specs.Books.{validator, deposit, partial, consolidation}
 use Rattle.file_format.specs.Places.{count-at, number-at, listed, books-at}
 use Rattle.file_format.specs.Places.{deposits-place, partials-place, consolidations-place}
 use Rattle.file_records.specs.Scalars.{scalars-at}
 use Rattle.file_records.specs.Laws.{validator-there}
 
--- ---- the balance of a validator at word k
+-- ---- a validator at word k: its tests, and its balance
+
+pub validator-tested : (ws : List ℕ) (k most : ℕ) {f b₁ b₂ b₃ b₄ b₅ : ℕ} {epochs : Bool}
+    → f ≡ flag .value (drop (k + 27) ws) → b₁ ≡ number-at ws (k + 28) → b₂ ≡ number-at ws (k + 31)
+    → b₃ ≡ number-at ws (k + 34) → b₄ ≡ number-at ws (k + 37) → b₅ ≡ number-at ws (k + 40)
+    → epochs ≡ (epoch-within b₂ && epoch-within b₃ && epoch-within b₄ && epoch-within b₅)
+    → (leb b₁ most && leb f 1 && epochs) ≡ validator-within most (validator .value (drop k ws))
+validator-tested ws k most p q₁ q₂ q₃ q₄ q₅ e =
+    let s = e ∙ λ j. (epoch-within (q₂ j) && epoch-within (q₃ j) && epoch-within (q₄ j) && epoch-within (q₅ j)) in
+    (λ j. (leb (q₁ j) most && leb (p j) 1 && s j)) ∙ sym (ap (validator-within most) (validator-there ws k))
 
 pub balance-there : (ws : List ℕ) (k : ℕ) → number-at ws (k + 43) ≡ validator .value (drop k ws) .balance
 balance-there ws k = sym (ap (λ v. v .balance) (validator-there ws k))

@@ -1,55 +1,73 @@
+-- The loop keeps whether every consolidation that is left passes.
+use mathlib.Core.Path.{_≡_, refl, ap, sym, _∙_}
+use Prim.Native.Nat.{_-_, _≤_}
+use native.Mathlib.Omega.{arith}
+use lib.ListN.{drop}
+use borrow.Author.Tests.{not-true, not-false}
+use Rattle.lists.specs.Base.{every}
+use Rattle.tables.specs.Tests.{every-more, every-stop, every-done}
+use Rattle.rules.specs.Acceptance.{consolidation-in}
+use Rattle.file_format.specs.Words.{words}
+use Rattle.file_format.specs.Books.{consolidation}
+use Rattle.file_records.specs.Lists.{records-from}
+use borrow.Author.Needs.{needs}
 use Rattle.file_acceptance.proofs.consolidations_in.Statement.{statement}
 use Rattle.file_acceptance.proofs.consolidations_in.Tie as tie
-use Rattle.file_acceptance.proofs.consolidations_in.Reads as reads
-use Rattle.file_acceptance.proofs.consolidations_in.Lts as lts
-use Rattle.acceptance.proofs.record.consolidation_in.Reads as consolidation-in-reads
-use Rattle.file_records.proofs.consolidation_at.Reads as consolidation-at-reads
 
 abbrev Inv-loop : tie.InvT-loop
-Inv-loop file k m n i₀ i = ?
+Inv-loop file k m n i₀ i =
+    (i ≤ m)
+    × (every (consolidation-in n) (drop i (records-from consolidation 6 k m (words file)))
+    ≡ every (consolidation-in n) (records-from consolidation 6 k m (words file)))
 
 abbrev μ-loop : tie.MeasureT-loop
-μ-loop file k m n i₀ i = ?
+μ-loop file k m n i₀ i = m - i
 
--- src/lib.rt:139:5
 loop-holds : tie.Need-loop-holds Inv-loop μ-loop
-loop-holds c = ?
+loop-holds c = (omega arith, refl)
 
--- src/lib.rt:140:57
 mul-consolidation-at : tie.Need-mul-consolidation-at Inv-loop μ-loop
-mul-consolidation-at c = ?
+mul-consolidation-at c = omega (arith, c .before .before .before .pre .small)
 
--- src/lib.rt:140:53
 add-consolidation-at : tie.Need-add-consolidation-at Inv-loop μ-loop
-add-consolidation-at c = ?
+add-consolidation-at c = omega (arith, c .before .before .before .pre .small)
 
--- src/lib.rt:140:30
 consolidation-at-requires : tie.Need-consolidation-at-requires Inv-loop μ-loop
-consolidation-at-requires c κs = ?
+consolidation-at-requires c κs =
+    let r = c .before .before .before .pre in
+    (omega (arith, r .small), r .good (c .before .loop .i) (omega arith))
 
--- src/lib.rt:140:13
 consolidation-in-requires : tie.Need-consolidation-in-requires Inv-loop μ-loop
-consolidation-in-requires c κs = ?
+consolidation-in-requires c κs = search needs
 
--- src/lib.rt:141:13
 returns : tie.Need-returns Inv-loop μ-loop
-returns c = ?
+returns c =
+    let q = c .before .consolidation-in in
+    let p = c .before .before .consolidation-at in
+    let l = c .before .before .before .before .loop in
+    let a = c .before .before .before .before .before .before .args in
+    every-stop _ _ _ (l .i) (l .inv .1) (omega arith)
+    (sym (q .ensures ∙ ap (consolidation-in (a .n)) (p .ensures)) ∙ not-true (q .result) (c .if1 .taken))
 
--- src/lib.rt:143:9
 add-i : tie.Need-add-i Inv-loop μ-loop
-add-i c = ?
+add-i c = omega arith
 
--- src/lib.rt:139:5
 loop-less : tie.Need-loop-less Inv-loop μ-loop
-loop-less c = ?
+loop-less c = omega arith
 
--- src/lib.rt:139:5
 loop-again : tie.Need-loop-again Inv-loop μ-loop
-loop-again c = ?
+loop-again c =
+    let q = c .before .consolidation-in in
+    let p = c .before .before .consolidation-at in
+    let l = c .before .before .before .before .loop in
+    let a = c .before .before .before .before .before .before .args in (
+      omega arith,
+      every-more _ _ _ (l .i) (l .inv .1) (omega arith)
+          (sym (q .ensures ∙ ap (consolidation-in (a .n)) (p .ensures)) ∙ not-false (q .result) (c .if1 .left)),
+    )
 
--- src/lib.rt:132:1
 returns-2 : tie.Need-returns-2 Inv-loop μ-loop
-returns-2 c = ?
+returns-2 c = let l = c .before .loop in every-done _ _ _ (l .i) (l .inv .1) (omega arith)
 
 pub consolidations-in-spec : {M : Type 1} → statement M
 consolidations-in-spec =

@@ -1,70 +1,94 @@
+-- The loop keeps what is left of the tested sum.
+use mathlib.Core.Path.{_≡_, refl, ap}
+use Prim.Native.Nat.{_+_, _-_, _*_, _≤_}
+use native.Mathlib.Omega.{arith}
+use lib.ListN.{drop}
+use borrow.Author.Tests.{lt-ltb, le-ltb}
+use Rattle.rules.specs.Types.{BOUND}
+use Rattle.rules.specs.Acceptance.{deposit-in}
+use Rattle.acceptance.specs.Tests.{tested-sum}
+use Rattle.acceptance.specs.Laws.{tested-more, tested-stop, tested-over, tested-done}
+use Rattle.file_format.specs.Words.{words}
+use Rattle.file_format.specs.Books.{deposit}
+use Rattle.file_records.specs.Lists.{records-from}
 use Rattle.file_acceptance.proofs.deposits_sum.Statement.{statement}
 use Rattle.file_acceptance.proofs.deposits_sum.Tie as tie
-use Rattle.file_acceptance.proofs.deposits_sum.Reads as reads
-use Rattle.file_acceptance.proofs.deposits_sum.Lts as lts
-use Rattle.file_records.proofs.deposit_at.Reads as deposit-at-reads
 
 abbrev Inv-loop : tie.InvT-loop
-Inv-loop file k m n sum₀ i₀ sum i = ?
+Inv-loop file k m n sum₀ i₀ sum i =
+    (i ≤ m)
+    × (sum ≤ BOUND)
+    × (tested-sum (deposit-in n) (λ x. x .amount) sum (drop i (records-from deposit 6 k m (words file)))
+    ≡ tested-sum (deposit-in n) (λ x. x .amount) sum₀ (records-from deposit 6 k m (words file)))
 
 abbrev μ-loop : tie.MeasureT-loop
-μ-loop file k m n sum₀ i₀ sum i = ?
+μ-loop file k m n sum₀ i₀ sum i = m - i
 
--- src/lib.rt:92:5
 loop-holds : tie.Need-loop-holds Inv-loop μ-loop
-loop-holds c = ?
+loop-holds c = (omega arith, omega arith, refl)
 
--- src/lib.rt:93:44
 mul-deposit-at : tie.Need-mul-deposit-at Inv-loop μ-loop
-mul-deposit-at c = ?
+mul-deposit-at c = omega (arith, c .before .before .before .pre .1 .small)
 
--- src/lib.rt:93:40
 add-deposit-at : tie.Need-add-deposit-at Inv-loop μ-loop
-add-deposit-at c = ?
+add-deposit-at c = omega (arith, c .before .before .before .pre .1 .small)
 
--- src/lib.rt:93:13
 deposit-at-requires : tie.Need-deposit-at-requires Inv-loop μ-loop
-deposit-at-requires c κs = ?
+deposit-at-requires c κs =
+    let r = c .before .before .before .pre .1 in
+    (omega (arith, r .small), r .good (c .before .loop .i) (omega arith))
 
--- src/lib.rt:95:25
 add-t12 : tie.Need-add-t12 Inv-loop μ-loop
-add-t12 c = ?
+add-t12 c = omega arith
 
--- src/lib.rt:95:13
 returns : tie.Need-returns Inv-loop μ-loop
-returns c = ?
+returns c =
+    let e = c .before .before .deposit-at .ensures in
+    let l = c .before .before .before .before .loop in
+    let a = c .before .before .before .before .before .before .args in
+    let d = deposit .value (drop (a .k + l .i * 6) (words (a .file .now))) in
+    tested-stop _ _ _ _ (l .i) (l .sum) _ (l .inv .2) (omega arith)
+    (le-ltb (d .index) (a .n) (omega (arith, ap (λ d. d .index) e)))
 
--- src/lib.rt:97:31
 sub-if2 : tie.Need-sub-if2 Inv-loop μ-loop
-sub-if2 c = ?
+sub-if2 c = omega arith
 
--- src/lib.rt:98:25
 add-t14 : tie.Need-add-t14 Inv-loop μ-loop
-add-t14 c = ?
+add-t14 c = omega arith
 
--- src/lib.rt:98:13
 returns-2 : tie.Need-returns-2 Inv-loop μ-loop
-returns-2 c = ?
+returns-2 c =
+    let d = c .before .before .before .before .deposit-at in
+    let l = c .before .before .before .before .before .before .loop in
+    tested-over _ _ _ _ (l .i) (l .sum) _ (l .inv .2) (omega arith) (d .result .amount .0)
+    (ap (λ x. x .amount) (d .ensures)) (omega arith)
 
--- src/lib.rt:100:9
 add-sum : tie.Need-add-sum Inv-loop μ-loop
-add-sum c = ?
+add-sum c = omega arith
 
--- src/lib.rt:101:9
 add-i : tie.Need-add-i Inv-loop μ-loop
-add-i c = ?
+add-i c = omega arith
 
--- src/lib.rt:92:5
 loop-less : tie.Need-loop-less Inv-loop μ-loop
-loop-less c = ?
+loop-less c = omega arith
 
--- src/lib.rt:92:5
 loop-again : tie.Need-loop-again Inv-loop μ-loop
-loop-again c = ?
+loop-again c =
+    let d = c .before .before .before .before .before .deposit-at in
+    let l = c .before .before .before .before .before .before .before .loop in
+    let a = c .before .before .before .before .before .before .before .before .before .args in
+    let v = deposit .value (drop (a .k + l .i * 6) (words (a .file .now))) in
+    let e = ap (λ x. x .index) (d .ensures) in (
+      omega arith,
+      omega arith,
+      tested-more _ _ _ _ (l .i) (l .sum) _ (l .inv .2) (omega arith)
+          (lt-ltb (v .index) (a .n) (omega (arith, e))) (d .result .amount .0) (ap (λ x. x .amount) (d .ensures)),
+    )
 
--- src/lib.rt:81:1
 returns-3 : tie.Need-returns-3 Inv-loop μ-loop
-returns-3 c = ?
+returns-3 c =
+    let l = c .before .loop in
+    tested-done _ _ _ _ (l .i) (l .sum) _ (l .inv .2) (omega arith) (omega arith)
 
 pub deposits-sum-spec : {M : Type 1} → statement M
 deposits-sum-spec =

@@ -1,75 +1,98 @@
+-- The loop keeps what is left of the tested sum.
+use mathlib.Core.Path.{_≡_, refl, ap, sym, _∙_}
+use Prim.Native.Nat.{_-_, _≤_}
+use native.Mathlib.Omega.{arith}
+use lib.ListN.{drop}
+use borrow.Author.Tests.{not-true, not-false}
+use Rattle.rules.specs.Types.{BOUND}
+use Rattle.acceptance.specs.Tests.{partial-within, tested-sum}
+use Rattle.acceptance.specs.Laws.{tested-more, tested-stop, tested-over, tested-done}
+use Rattle.file_format.specs.Words.{words}
+use Rattle.file_format.specs.Books.{partial}
+use Rattle.file_records.specs.Lists.{records-from}
+use borrow.Author.Needs.{needs}
 use Rattle.file_acceptance.proofs.partials_sum.Statement.{statement}
 use Rattle.file_acceptance.proofs.partials_sum.Tie as tie
-use Rattle.file_acceptance.proofs.partials_sum.Reads as reads
-use Rattle.file_acceptance.proofs.partials_sum.Lts as lts
-use Rattle.acceptance.proofs.record.partial_within.Reads as partial-within-reads
-use Rattle.file_records.proofs.partial_at.Reads as partial-at-reads
 
 abbrev Inv-loop : tie.InvT-loop
-Inv-loop file k m n sum₀ i₀ sum i = ?
+Inv-loop file k m n sum₀ i₀ sum i =
+    (i ≤ m)
+    × (sum ≤ BOUND)
+    × (tested-sum (partial-within n) (λ x. x .amount) sum (drop i (records-from partial 9 k m (words file)))
+    ≡ tested-sum (partial-within n) (λ x. x .amount) 0 (records-from partial 9 k m (words file)))
 
 abbrev μ-loop : tie.MeasureT-loop
-μ-loop file k m n sum₀ i₀ sum i = ?
+μ-loop file k m n sum₀ i₀ sum i = m - i
 
--- src/lib.rt:117:5
 loop-holds : tie.Need-loop-holds Inv-loop μ-loop
-loop-holds c = ?
+loop-holds c = (omega arith, omega arith, refl)
 
--- src/lib.rt:118:44
 mul-partial-at : tie.Need-mul-partial-at Inv-loop μ-loop
-mul-partial-at c = ?
+mul-partial-at c = omega (arith, c .before .before .before .pre .small)
 
--- src/lib.rt:118:40
 add-partial-at : tie.Need-add-partial-at Inv-loop μ-loop
-add-partial-at c = ?
+add-partial-at c = omega (arith, c .before .before .before .pre .small)
 
--- src/lib.rt:118:13
 partial-at-requires : tie.Need-partial-at-requires Inv-loop μ-loop
-partial-at-requires c κs = ?
+partial-at-requires c κs =
+    let r = c .before .before .before .pre in
+    (omega (arith, r .small), r .good (c .before .loop .i) (omega arith))
 
--- src/lib.rt:119:13
 partial-within-requires : tie.Need-partial-within-requires Inv-loop μ-loop
-partial-within-requires c κs = ?
+partial-within-requires c κs = search needs
 
--- src/lib.rt:120:25
 add-t12 : tie.Need-add-t12 Inv-loop μ-loop
-add-t12 c = ?
+add-t12 c = omega arith
 
--- src/lib.rt:120:13
 returns : tie.Need-returns Inv-loop μ-loop
-returns c = ?
+returns c =
+    let q = c .before .partial-within in
+    let p = c .before .before .partial-at in
+    let l = c .before .before .before .before .loop in
+    let a = c .before .before .before .before .before .before .args in
+    tested-stop _ _ _ _ (l .i) (l .sum) _ (l .inv .2) (omega arith)
+    (sym (q .ensures ∙ ap (partial-within (a .n)) (p .ensures)) ∙ not-true (q .result) (c .if1 .taken))
 
--- src/lib.rt:122:31
 sub-if2 : tie.Need-sub-if2 Inv-loop μ-loop
-sub-if2 c = ?
+sub-if2 c = omega arith
 
--- src/lib.rt:123:25
 add-t14 : tie.Need-add-t14 Inv-loop μ-loop
-add-t14 c = ?
+add-t14 c = omega arith
 
--- src/lib.rt:123:13
 returns-2 : tie.Need-returns-2 Inv-loop μ-loop
-returns-2 c = ?
+returns-2 c =
+    let p = c .before .before .before .before .partial-at in
+    let l = c .before .before .before .before .before .before .loop in
+    tested-over _ _ _ _ (l .i) (l .sum) _ (l .inv .2) (omega arith) (p .result .amount .0)
+    (ap (λ x. x .amount) (p .ensures)) (omega arith)
 
--- src/lib.rt:125:9
 add-sum : tie.Need-add-sum Inv-loop μ-loop
-add-sum c = ?
+add-sum c = omega arith
 
--- src/lib.rt:126:9
 add-i : tie.Need-add-i Inv-loop μ-loop
-add-i c = ?
+add-i c = omega arith
 
--- src/lib.rt:117:5
 loop-less : tie.Need-loop-less Inv-loop μ-loop
-loop-less c = ?
+loop-less c = omega arith
 
--- src/lib.rt:117:5
 loop-again : tie.Need-loop-again Inv-loop μ-loop
-loop-again c = ?
+loop-again c =
+    let q = c .before .before .before .before .partial-within in
+    let p = c .before .before .before .before .before .partial-at in
+    let l = c .before .before .before .before .before .before .before .loop in
+    let a = c .before .before .before .before .before .before .before .before .before .args in (
+      omega arith,
+      omega arith,
+      tested-more _ _ _ _ (l .i) (l .sum) _ (l .inv .2) (omega arith)
+          (sym (q .ensures ∙ ap (partial-within (a .n)) (p .ensures))
+          ∙ not-false (q .result) (c .before .before .before .if1 .left))
+          (p .result .amount .0) (ap (λ x. x .amount) (p .ensures)),
+    )
 
--- src/lib.rt:107:1
 returns-3 : tie.Need-returns-3 Inv-loop μ-loop
-returns-3 c = ?
+returns-3 c =
+    let l = c .before .loop in
+    tested-done _ _ _ _ (l .i) (l .sum) _ (l .inv .2) (omega arith) (omega arith)
 
 pub partials-sum-spec : {M : Type 1} → statement M
 partials-sum-spec =

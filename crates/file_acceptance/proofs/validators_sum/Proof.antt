@@ -1,79 +1,104 @@
+-- The loop keeps what is left of the tested sum.
+use mathlib.Core.Path.{_≡_, refl, sym, _∙_}
+use Prim.Native.Nat.{_+_, _-_, _*_, _≤_}
+use native.Mathlib.Omega.{arith}
+use lib.ListN.{drop}
+use borrow.Author.Tests.{not-true, not-false}
+use Rattle.rules.specs.Types.{BOUND}
+use Rattle.acceptance.specs.Tests.{validator-within, tested-sum}
+use Rattle.acceptance.specs.Laws.{tested-more, tested-stop, tested-over, tested-done}
+use Rattle.file_format.specs.Words.{words}
+use Rattle.file_format.specs.Books.{validator}
+use Rattle.file_records.specs.Laws.{validator-good}
+use Rattle.file_records.specs.Lists.{records-from}
+use Rattle.file_acceptance.specs.Laws.{balance-there}
 use Rattle.file_acceptance.proofs.validators_sum.Statement.{statement}
 use Rattle.file_acceptance.proofs.validators_sum.Tie as tie
-use Rattle.file_acceptance.proofs.validators_sum.Reads as reads
-use Rattle.file_acceptance.proofs.validators_sum.Lts as lts
-use Rattle.file_acceptance.proofs.validator_within.Reads as validator-within-reads
-use Rattle.file_words.proofs.number_at.Reads as number-at-reads
 
 abbrev Inv-loop : tie.InvT-loop
-Inv-loop most file n sum₀ i₀ sum i = ?
+Inv-loop most file n sum₀ i₀ sum i =
+    (i ≤ n)
+    × (sum ≤ BOUND)
+    × (tested-sum (validator-within (most .0)) (λ x. x .balance) sum (drop i (records-from validator 46 86 n (words file)))
+    ≡ tested-sum (validator-within (most .0)) (λ x. x .balance) 0 (records-from validator 46 86 n (words file)))
 
 abbrev μ-loop : tie.MeasureT-loop
-μ-loop most file n sum₀ i₀ sum i = ?
+μ-loop most file n sum₀ i₀ sum i = n - i
 
--- src/lib.rt:65:5
 loop-holds : tie.Need-loop-holds Inv-loop μ-loop
-loop-holds c = ?
+loop-holds c = (omega arith, omega arith, refl)
 
--- src/lib.rt:66:22
 mul-k : tie.Need-mul-k Inv-loop μ-loop
-mul-k c = ?
+mul-k c = omega (arith, c .before .before .before .pre .small)
 
--- src/lib.rt:66:17
 add-k : tie.Need-add-k Inv-loop μ-loop
-add-k c = ?
+add-k c = omega (arith, c .before .before .before .pre .small)
 
--- src/lib.rt:67:13
 validator-within-requires : tie.Need-validator-within-requires Inv-loop μ-loop
-validator-within-requires c κs = ?
+validator-within-requires c κs =
+    let r = c .before .before .before .pre in
+    (omega (arith, r .small), r .good (c .before .loop .i) (omega arith))
 
--- src/lib.rt:68:25
 add-t11 : tie.Need-add-t11 Inv-loop μ-loop
-add-t11 c = ?
+add-t11 c = omega arith
 
--- src/lib.rt:68:13
 returns : tie.Need-returns Inv-loop μ-loop
-returns c = ?
+returns c =
+    let v = c .before .validator-within in
+    let l = c .before .before .before .loop in
+    tested-stop _ _ _ _ (l .i) (l .sum) _ (l .inv .2) (omega arith)
+    (sym (v .ensures) ∙ not-true (v .result) (c .if1 .taken))
 
--- src/lib.rt:70:39
 add-number-at : tie.Need-add-number-at Inv-loop μ-loop
-add-number-at c = ?
+add-number-at c = omega (arith, c .before .before .before .before .before .pre .small)
 
--- src/lib.rt:70:13
 number-at-requires : tie.Need-number-at-requires Inv-loop μ-loop
-number-at-requires c κs = ?
+number-at-requires c κs =
+    let s = c .before .before .before .before .before in
+    let l = c .before .before .before .loop in
+    let v = validator-good (words (s .args .file .now)) (86 + l .i * 46) (s .pre .good (l .i) (omega arith)) in
+    (omega (arith, s .pre .small), v .balance)
 
--- src/lib.rt:71:22
 sub-if2 : tie.Need-sub-if2 Inv-loop μ-loop
-sub-if2 c = ?
+sub-if2 c = omega arith
 
--- src/lib.rt:72:25
 add-t13 : tie.Need-add-t13 Inv-loop μ-loop
-add-t13 c = ?
+add-t13 c = omega arith
 
--- src/lib.rt:72:13
 returns-2 : tie.Need-returns-2 Inv-loop μ-loop
-returns-2 c = ?
+returns-2 c =
+    let b = c .before .number-at in
+    let l = c .before .before .before .before .before .loop in
+    let a = c .before .before .before .before .before .before .before .args in
+    tested-over _ _ _ _ (l .i) (l .sum) _ (l .inv .2) (omega arith) (b .result)
+    (b .ensures ∙ balance-there (words (a .file .now)) (86 + l .i * 46)) (omega arith)
 
--- src/lib.rt:74:9
 add-sum : tie.Need-add-sum Inv-loop μ-loop
-add-sum c = ?
+add-sum c = omega arith
 
--- src/lib.rt:75:9
 add-i : tie.Need-add-i Inv-loop μ-loop
-add-i c = ?
+add-i c = omega arith
 
--- src/lib.rt:65:5
 loop-less : tie.Need-loop-less Inv-loop μ-loop
-loop-less c = ?
+loop-less c = omega arith
 
--- src/lib.rt:65:5
 loop-again : tie.Need-loop-again Inv-loop μ-loop
-loop-again c = ?
+loop-again c =
+    let b = c .before .number-at in
+    let v = c .before .before .before .validator-within in
+    let l = c .before .before .before .before .before .loop in
+    let a = c .before .before .before .before .before .before .before .args in (
+      omega arith,
+      omega arith,
+      tested-more _ _ _ _ (l .i) (l .sum) _ (l .inv .2) (omega arith)
+          (sym (v .ensures) ∙ not-false (v .result) (c .before .before .if1 .left)) (b .result)
+          (b .ensures ∙ balance-there (words (a .file .now)) (86 + l .i * 46)),
+    )
 
--- src/lib.rt:55:1
 returns-3 : tie.Need-returns-3 Inv-loop μ-loop
-returns-3 c = ?
+returns-3 c =
+    let l = c .before .loop in
+    tested-done _ _ _ _ (l .i) (l .sum) _ (l .inv .2) (omega arith) (omega arith)
 
 pub validators-sum-spec : {M : Type 1} → statement M
 validators-sum-spec =
