@@ -9,9 +9,9 @@ use Rattle.lists.specs.Base.{every}
 use Rattle.tables.specs.Rows.{rows, length-rows}
 use Rattle.rules.specs.Types.{BOUND, Settings, Validator}
 use Rattle.rules.specs.Types.{PendingBalanceDeposit, PendingPartialWithdrawal, PendingConsolidation}
-use Rattle.rules.specs.Acceptance.{sound-books, epoch-within, consolidation-in}
+use Rattle.rules.specs.Acceptance.{sound-books, epoch-within, deposit-in, consolidation-in}
 use Rattle.primitives.specs.declared.Scalars.{Scalars}
-use Rattle.acceptance.specs.Tests.{validator-within, scalars-within}
+use Rattle.acceptance.specs.Tests.{validator-within, partial-within, scalars-within, tested-sum}
 use Rattle.acceptance.specs.Sound as lists
 use Rattle.acceptance.specs.Sound.{books-with, Counted, BalancesSum, HeldSum, PartialsSum}
 use Rattle.file_format.specs.Fields.{flag}
@@ -20,6 +20,7 @@ use Rattle.file_format.specs.Places.{count-at, number-at, listed, books-at}
 use Rattle.file_format.specs.Places.{deposits-place, partials-place, consolidations-place}
 use Rattle.file_records.specs.Scalars.{scalars-at}
 use Rattle.file_records.specs.Laws.{validator-there}
+use Rattle.file_records.specs.Lists.{records-from, listed-from}
 
 -- ---- a validator at word k: its tests, and its balance
 
@@ -76,6 +77,48 @@ module _ (S : Settings) (ws : List ℕ) {s : Scalars} (e : s ≡ scalars-at ws) 
     partials = length-rows _ _ ∙ sym (partials-counted ws e);
     consolidations = length-rows _ _ ∙ sym (consolidations-counted ws e);
   }
+
+  -- what each pass computes
+
+  pub balances-summed : {sum : ℕ}
+      → sum
+      ≡ tested-sum (validator-within (S .max-effective-balance-electra)) (λ v. v .balance) 0
+      (records-from validator 46 86 (s .validators) ws)
+      → BalancesSum S (file-validators ws) sum
+  balances-summed h =
+      h
+      ∙ ap (tested-sum (validator-within (S .max-effective-balance-electra)) (λ v. v .balance) 0)
+      (listed-from validator 46 ws refl (validators-counted ws e))
+
+  pub held-summed : (start : ℕ) {p sum : ℕ} → p ≡ deposits-place ws
+      → sum
+      ≡ tested-sum (deposit-in (s .validators)) (λ d. d .amount) start
+      (records-from deposit 6 (p + 1) (s .deposits) ws)
+      → HeldSum s (file-deposits ws) start sum
+  held-summed start q h =
+      h
+      ∙ ap (tested-sum (deposit-in (s .validators)) (λ d. d .amount) start)
+      (listed-from deposit 6 ws q (deposits-counted ws e))
+
+  pub partials-summed : {p sum : ℕ} → p ≡ partials-place ws
+      → sum
+      ≡ tested-sum (partial-within (s .validators)) (λ p. p .amount) 0
+      (records-from partial 9 (p + 1) (s .partials) ws)
+      → PartialsSum s (file-partials ws) sum
+  partials-summed q h =
+      h
+      ∙ ap (tested-sum (partial-within (s .validators)) (λ p. p .amount) 0)
+      (listed-from partial 9 ws q (partials-counted ws e))
+
+  pub consolidations-tested : {p : ℕ} {t : Bool} → p ≡ consolidations-place ws
+      → t ≡ every (consolidation-in (s .validators)) (records-from consolidation 6 (p + 1) (s .consolidations) ws)
+      → t ≡ every (consolidation-in (s .validators)) (file-consolidations ws)
+  consolidations-tested q h =
+      h
+      ∙ ap (every (consolidation-in (s .validators)))
+      (listed-from consolidation 6 ws q (consolidations-counted ws e))
+
+  -- the books
 
   same-books : books-with (scalars-at ws) (file-validators ws) (file-deposits ws) (file-partials ws)
       (file-consolidations ws)
