@@ -6,9 +6,8 @@ use Prim.Native.Nat.{ℕ, _+_, _≤_, _<_}
 use lib.Dec.{leb}
 use lib.ListN.{drop}
 use Rattle.lists.specs.Base.{every}
-use Rattle.tables.specs.Rows.{rows, length-rows}
-use Rattle.rules.specs.Types.{BOUND, Settings, Validator}
-use Rattle.rules.specs.Types.{PendingBalanceDeposit, PendingPartialWithdrawal, PendingConsolidation}
+use Rattle.tables.specs.Rows.{length-rows}
+use Rattle.rules.specs.Types.{BOUND, Settings}
 use Rattle.rules.specs.Acceptance.{sound-books, epoch-within, deposit-in, consolidation-in}
 use Rattle.primitives.specs.declared.Scalars.{Scalars}
 use Rattle.acceptance.specs.Tests.{validator-within, partial-within, scalars-within, tested-sum}
@@ -16,9 +15,11 @@ use Rattle.acceptance.specs.Sound as lists
 use Rattle.acceptance.specs.Sound.{books-with, Counted, BalancesSum, HeldSum, PartialsSum}
 use Rattle.file_format.specs.Fields.{flag}
 use Rattle.file_format.specs.Books.{validator, deposit, partial, consolidation}
-use Rattle.file_format.specs.Places.{count-at, number-at, listed, books-at}
+use Rattle.file_format.specs.Places.{number-at, books-at}
 use Rattle.file_format.specs.Places.{deposits-place, partials-place, consolidations-place}
 use Rattle.file_records.specs.Scalars.{scalars-at}
+use Rattle.file_records.specs.Books.{validators-counted, deposits-counted, partials-counted, consolidations-counted}
+use Rattle.file_records.specs.Books.{file-validators, file-deposits, file-partials, file-consolidations, file-books}
 use Rattle.file_records.specs.Laws.{validator-there}
 use Rattle.file_records.specs.Lists.{records-from, listed-from}
 
@@ -36,38 +37,7 @@ validator-tested ws k most p q₁ q₂ q₃ q₄ q₅ e =
 pub balance-there : (ws : List ℕ) (k : ℕ) → number-at ws (k + 43) ≡ validator .value (drop k ws) .balance
 balance-there ws k = sym (ap (λ v. v .balance) (validator-there ws k))
 
--- ---- the counts, from the scalars
-
-module _ (ws : List ℕ) {s : Scalars} (e : s ≡ scalars-at ws) where
-  pub validators-counted : s .validators ≡ count-at ws 85
-  unfolding scalars-at
-  validators-counted = ap (λ x. x .validators) e
-
-  pub deposits-counted : s .deposits ≡ count-at ws (deposits-place ws)
-  unfolding scalars-at
-  deposits-counted = ap (λ x. x .deposits) e
-
-  pub partials-counted : s .partials ≡ count-at ws (partials-place ws)
-  unfolding scalars-at
-  partials-counted = ap (λ x. x .partials) e
-
-  pub consolidations-counted : s .consolidations ≡ count-at ws (consolidations-place ws)
-  unfolding scalars-at
-  consolidations-counted = ap (λ x. x .consolidations) e
-
--- ---- the lists
-
-abbrev pub file-validators : List ℕ → List Validator
-file-validators ws = listed validator 46 85 ws
-
-abbrev pub file-deposits : List ℕ → List PendingBalanceDeposit
-file-deposits ws = listed deposit 6 (deposits-place ws) ws
-
-abbrev pub file-partials : List ℕ → List PendingPartialWithdrawal
-file-partials ws = listed partial 9 (partials-place ws) ws
-
-abbrev pub file-consolidations : List ℕ → List PendingConsolidation
-file-consolidations ws = listed consolidation 6 (consolidations-place ws) ws
+-- ---- sound books
 
 module _ (S : Settings) (ws : List ℕ) {s : Scalars} (e : s ≡ scalars-at ws) where
   counted : Counted s (file-validators ws) (file-deposits ws) (file-partials ws) (file-consolidations ws)
@@ -120,19 +90,13 @@ module _ (S : Settings) (ws : List ℕ) {s : Scalars} (e : s ≡ scalars-at ws) 
 
   -- the books
 
-  same-books : books-with (scalars-at ws) (file-validators ws) (file-deposits ws) (file-partials ws)
-      (file-consolidations ws)
-      ≡ books-at ws
-  unfolding scalars-at rows
-  same-books = refl
-
   abbrev with-scalars : Scalars → Bool
   with-scalars x =
       sound-books S
       (books-with x (file-validators ws) (file-deposits ws) (file-partials ws) (file-consolidations ws))
 
   same-sound : with-scalars s ≡ sound-books S (books-at ws)
-  same-sound = ap with-scalars e ∙ ap (sound-books S) same-books
+  same-sound = ap with-scalars e ∙ ap (sound-books S) (file-books ws)
 
   pub scalars-refused : scalars-within S s ≡ false → false ≡ sound-books S (books-at ws)
   scalars-refused h = lists.scalars-refused S s _ _ _ _ counted h ∙ same-sound

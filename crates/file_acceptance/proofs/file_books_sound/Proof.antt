@@ -14,9 +14,8 @@ use Rattle.file_format.specs.Words.{words}
 use Rattle.file_records.specs.Scalars.{scalars-at}
 use Rattle.file_records.specs.Lists.{validators-readable, deposits-readable, partials-readable}
 use Rattle.file_records.specs.Lists.{consolidations-readable}
-use Rattle.file_acceptance.specs.Laws.{file-validators, file-deposits, file-partials}
-use Rattle.file_acceptance.specs.Laws.{validators-counted, deposits-counted, partials-counted}
-use Rattle.file_acceptance.specs.Laws.{consolidations-counted}
+use Rattle.file_records.specs.Books.{file-validators, file-deposits, file-partials}
+use Rattle.file_records.specs.Books.{validators-counted, deposits-counted, partials-counted, consolidations-counted}
 use Rattle.file_acceptance.specs.Laws.{balances-summed, held-summed, partials-summed, consolidations-tested}
 use Rattle.file_acceptance.specs.Laws.{scalars-refused, balances-refused, held-refused, partials-refused}
 use Rattle.file_acceptance.specs.Laws.{consolidations-decide}
