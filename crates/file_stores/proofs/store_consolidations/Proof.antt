@@ -1,55 +1,52 @@
+use Prim.Native.Nat.{_-_, _≤_}
+use native.Mathlib.Omega.{arith}
+use Rattle.file_format.specs.Words.{words}
+use Rattle.file_stores.specs.Stored.{ConsolidationsStored}
+use Rattle.file_stores.specs.Laws.{stored-none, stored-more, stored-all}
 use Rattle.file_stores.proofs.store_consolidations.Statement.{statement}
 use Rattle.file_stores.proofs.store_consolidations.Tie as tie
-use Rattle.file_stores.proofs.store_consolidations.Reads as reads
-use Rattle.file_stores.proofs.store_consolidations.Lts as lts
-use Rattle.file_records.proofs.consolidation_at.Reads as consolidation-at-reads
-use Rattle.records.proofs.queues.push_consolidation.Reads as push-consolidation-reads
 
 abbrev Inv-loop : tie.InvT-loop
-Inv-loop file k n consolidations₀ i₀ consolidations i = ?
+Inv-loop file k n consolidations₀ i₀ consolidations i =
+    (i ≤ n) × ConsolidationsStored (words file) k i consolidations₀ consolidations
 
 abbrev μ-loop : tie.MeasureT-loop
-μ-loop file k n consolidations₀ i₀ consolidations i = ?
+μ-loop file k n consolidations₀ i₀ consolidations i = n - i
 
--- src/lib.rt:83:5
 loop-holds : tie.Need-loop-holds Inv-loop μ-loop
-loop-holds c = ?
+loop-holds c = (omega arith, stored-none _ _ _)
 
--- src/lib.rt:84:74
 mul-consolidation-at : tie.Need-mul-consolidation-at Inv-loop μ-loop
-mul-consolidation-at c = ?
+mul-consolidation-at c = omega (arith, c .before .before .before .before .before .pre .0 .small)
 
--- src/lib.rt:84:70
 add-consolidation-at : tie.Need-add-consolidation-at Inv-loop μ-loop
-add-consolidation-at c = ?
+add-consolidation-at c = omega (arith, c .before .before .before .before .before .pre .0 .small)
 
--- src/lib.rt:84:47
 consolidation-at-requires : tie.Need-consolidation-at-requires Inv-loop μ-loop
-consolidation-at-requires c κs = ?
+consolidation-at-requires c κs =
+    let r = c .before .before .before .before .before .pre .0 in
+    (omega (arith, r .small), r .good (c .before .before .loop .i) (omega arith))
 
--- src/lib.rt:84:9
 push-consolidation-requires : tie.Need-push-consolidation-requires Inv-loop μ-loop
-push-consolidation-requires c κs = ?
+push-consolidation-requires c κs = omega (arith, c .before .before .before .before .before .before .pre .1, c .before .before .before .loop .inv .1 .size)
 
--- src/lib.rt:85:9
 add-i : tie.Need-add-i Inv-loop μ-loop
-add-i c = ?
+add-i c = omega arith
 
--- src/lib.rt:83:5
 loop-less : tie.Need-loop-less Inv-loop μ-loop
-loop-less c = ?
+loop-less c = omega arith
 
--- src/lib.rt:83:5
 loop-again : tie.Need-loop-again Inv-loop μ-loop
-loop-again c = ?
+loop-again c =
+    let p = c .before .before .push-consolidation in
+    let l = c .before .before .before .before .before .before .loop in
+    (omega arith, stored-more _ _ _ (l .inv .1) (p .ensures) (p .kept .0) (c .before .before .before .consolidation-at .ensures))
 
--- src/lib.rt:74:1
 same-length : tie.Need-same-length Inv-loop μ-loop
-same-length c = ?
+same-length c = c .before .loop .inv .1 .size
 
--- src/lib.rt:74:1
 returns : tie.Need-returns Inv-loop μ-loop
-returns c = ?
+returns c = stored-all _ _ _ (c .before .loop .inv .0) (omega arith) (c .before .loop .inv .1)
 
 pub store-consolidations-spec : {M : Type 1} → statement M
 store-consolidations-spec =

@@ -1,55 +1,52 @@
+use Prim.Native.Nat.{_-_, _≤_}
+use native.Mathlib.Omega.{arith}
+use Rattle.file_format.specs.Words.{words}
+use Rattle.file_stores.specs.Stored.{DepositsStored}
+use Rattle.file_stores.specs.Laws.{stored-none, stored-more, stored-all}
 use Rattle.file_stores.proofs.store_deposits.Statement.{statement}
 use Rattle.file_stores.proofs.store_deposits.Tie as tie
-use Rattle.file_stores.proofs.store_deposits.Reads as reads
-use Rattle.file_stores.proofs.store_deposits.Lts as lts
-use Rattle.file_records.proofs.deposit_at.Reads as deposit-at-reads
-use Rattle.records.proofs.queues.push_deposit.Reads as push-deposit-reads
 
 abbrev Inv-loop : tie.InvT-loop
-Inv-loop file k n deposits₀ i₀ deposits i = ?
+Inv-loop file k n deposits₀ i₀ deposits i =
+    (i ≤ n) × DepositsStored (words file) k i deposits₀ deposits
 
 abbrev μ-loop : tie.MeasureT-loop
-μ-loop file k n deposits₀ i₀ deposits i = ?
+μ-loop file k n deposits₀ i₀ deposits i = n - i
 
--- src/lib.rt:52:5
 loop-holds : tie.Need-loop-holds Inv-loop μ-loop
-loop-holds c = ?
+loop-holds c = (omega arith, stored-none _ _ _)
 
--- src/lib.rt:53:56
 mul-deposit-at : tie.Need-mul-deposit-at Inv-loop μ-loop
-mul-deposit-at c = ?
+mul-deposit-at c = omega (arith, c .before .before .before .before .before .pre .0 .small)
 
--- src/lib.rt:53:52
 add-deposit-at : tie.Need-add-deposit-at Inv-loop μ-loop
-add-deposit-at c = ?
+add-deposit-at c = omega (arith, c .before .before .before .before .before .pre .0 .small)
 
--- src/lib.rt:53:35
 deposit-at-requires : tie.Need-deposit-at-requires Inv-loop μ-loop
-deposit-at-requires c κs = ?
+deposit-at-requires c κs =
+    let r = c .before .before .before .before .before .pre .0 in
+    (omega (arith, r .small), r .good (c .before .before .loop .i) (omega arith))
 
--- src/lib.rt:53:9
 push-deposit-requires : tie.Need-push-deposit-requires Inv-loop μ-loop
-push-deposit-requires c κs = ?
+push-deposit-requires c κs = omega (arith, c .before .before .before .before .before .before .pre .1, c .before .before .before .loop .inv .1 .size)
 
--- src/lib.rt:54:9
 add-i : tie.Need-add-i Inv-loop μ-loop
-add-i c = ?
+add-i c = omega arith
 
--- src/lib.rt:52:5
 loop-less : tie.Need-loop-less Inv-loop μ-loop
-loop-less c = ?
+loop-less c = omega arith
 
--- src/lib.rt:52:5
 loop-again : tie.Need-loop-again Inv-loop μ-loop
-loop-again c = ?
+loop-again c =
+    let p = c .before .before .push-deposit in
+    let l = c .before .before .before .before .before .before .loop in
+    (omega arith, stored-more _ _ _ (l .inv .1) (p .ensures) (p .kept .0) (c .before .before .before .deposit-at .ensures))
 
--- src/lib.rt:44:1
 same-length : tie.Need-same-length Inv-loop μ-loop
-same-length c = ?
+same-length c = c .before .loop .inv .1 .size
 
--- src/lib.rt:44:1
 returns : tie.Need-returns Inv-loop μ-loop
-returns c = ?
+returns c = stored-all _ _ _ (c .before .loop .inv .0) (omega arith) (c .before .loop .inv .1)
 
 pub store-deposits-spec : {M : Type 1} → statement M
 store-deposits-spec =
