@@ -1,79 +1,94 @@
+-- The four lists, one after the other.
+use mathlib.Core.Path.{_≡_}
+use mathlib.Core.List.{List}
+use Prim.Native.Nat.{ℕ}
 use borrow.Author.Needs.{needs}
+use Rattle.file_format.specs.Words.{words}
+use Rattle.file_records.specs.Scalars.{scalars-at}
+use Rattle.file_records.specs.Lists.{validators-readable, deposits-readable, partials-readable}
+use Rattle.file_records.specs.Lists.{consolidations-readable}
+use Rattle.file_records.specs.Books.{validators-counted, deposits-counted, partials-counted, consolidations-counted}
+use Rattle.file_stores.specs.Laws.{books-stored}
 use Rattle.file_stores.proofs.store_books.Statement.{statement}
 use Rattle.file_stores.proofs.store_books.Tie as tie
-use Rattle.file_stores.proofs.store_books.Reads as reads
-use Rattle.file_stores.proofs.store_books.Lts as lts
-use Rattle.books_file.proofs.consolidations_place.Reads as consolidations-place-reads
-use Rattle.books_file.proofs.deposits_place.Reads as deposits-place-reads
-use Rattle.books_file.proofs.partials_place.Reads as partials-place-reads
-use Rattle.file_stores.proofs.store_consolidations.Reads as store-consolidations-reads
-use Rattle.file_stores.proofs.store_deposits.Reads as store-deposits-reads
-use Rattle.file_stores.proofs.store_partials.Reads as store-partials-reads
-use Rattle.file_stores.proofs.store_validators.Reads as store-validators-reads
 
--- src/lib.rt:113:5
+abbrev ws : tie.Start → List ℕ
+ws c = words (c .args .file .now)
+
+e : (c : tie.Start) → c .args .scalars ≡ scalars-at (ws c)
+e c = c .pre .1 .0
+
 store-validators-requires : tie.Need-store-validators-requires
-store-validators-requires c κs = ?
+store-validators-requires c κs =
+    let b = c .before .before .before .before .before .before .before .before in
+    let room = b .pre .1 .1 in
+    (validators-readable (ws b) (b .pre .0) (validators-counted (ws b) (e b)), (room .identities, room .validators))
 
--- src/lib.rt:114:26
 deposits-place-requires : tie.Need-deposits-place-requires
 deposits-place-requires c κs = search needs
 
--- src/lib.rt:114:26
 add-store-deposits : tie.Need-add-store-deposits
 add-store-deposits c = search needs
 
--- src/lib.rt:114:5
 store-deposits-requires : tie.Need-store-deposits-requires
-store-deposits-requires c κs = ?
+store-deposits-requires c κs =
+    let b = c .before .before .before .before .before .before .before .before .before .before .before .before .before .before .before in (
+      deposits-readable (ws b) (b .pre .0) (c .before .deposits-place .ensures) (deposits-counted (ws b) (e b)),
+      b .pre .1 .1 .deposits,
+    )
 
--- src/lib.rt:115:26
 partials-place-requires : tie.Need-partials-place-requires
 partials-place-requires c κs = search needs
 
--- src/lib.rt:115:26
 add-store-partials : tie.Need-add-store-partials
 add-store-partials c = search needs
 
--- src/lib.rt:115:5
 store-partials-requires : tie.Need-store-partials-requires
-store-partials-requires c κs = ?
+store-partials-requires c κs =
+    let b = c .before .before .before .before .before .before .before .before .before .before .before .before .before .before .before .before .before .before .before .before in (
+      partials-readable (ws b) (b .pre .0) (c .before .partials-place .ensures) (partials-counted (ws b) (e b)),
+      b .pre .1 .1 .partials,
+    )
 
--- src/lib.rt:118:9
 consolidations-place-requires : tie.Need-consolidations-place-requires
 consolidations-place-requires c κs = search needs
 
--- src/lib.rt:118:9
 add-store-consolidations : tie.Need-add-store-consolidations
 add-store-consolidations c = search needs
 
--- src/lib.rt:116:5
 store-consolidations-requires : tie.Need-store-consolidations-requires
-store-consolidations-requires c κs = ?
+store-consolidations-requires c κs =
+    let b = c .before .before .before .before .before .before .before .before .before .before .before .before .before .before .before .before .before .before .before .before .before .before .before .before .before in (
+      consolidations-readable (ws b) (b .pre .0) (c .before .consolidations-place .ensures)
+          (consolidations-counted (ws b) (e b)),
+      b .pre .1 .1 .consolidations,
+    )
 
--- src/lib.rt:90:1
 same-length : tie.Need-same-length
 same-length c = search needs
 
--- src/lib.rt:90:1
 same-length-2 : tie.Need-same-length-2
 same-length-2 c = search needs
 
--- src/lib.rt:90:1
 same-length-3 : tie.Need-same-length-3
 same-length-3 c = search needs
 
--- src/lib.rt:90:1
 same-length-4 : tie.Need-same-length-4
 same-length-4 c = search needs
 
--- src/lib.rt:90:1
 same-length-5 : tie.Need-same-length-5
 same-length-5 c = search needs
 
--- src/lib.rt:90:1
 returns : tie.Need-returns
-returns c = ?
+returns c =
+    let b = c .before .before .before .before .before .before .before .before .before .before .before .before .before .before .before .before .before .before .before .before .before .before .before .before .before .before .before .before in
+    let x = c .before .before in
+    let p = x .before .before .before .before .before in
+    let d = p .before .before .before .before .before in
+    let v = d .before .before .before .before .before .before .before in
+    books-stored (ws b) (e b) (d .before .before .deposits-place .ensures) (p .before .before .partials-place .ensures)
+    (x .before .before .consolidations-place .ensures) (v .store-validators .ensures) (d .store-deposits .ensures)
+    (p .store-partials .ensures) (x .store-consolidations .ensures)
 
 pub store-books-spec : {M : Type 1} → statement M
 store-books-spec =
