@@ -30,7 +30,7 @@ use Rattle.file_format.specs.PlacesLaws.{Good, good, books-value}
 use Rattle.file_records.specs.Scalars.{scalars-at}
 use Rattle.file_records.specs.Books.{validators-counted, deposits-counted, partials-counted, consolidations-counted}
 use Rattle.file_records.specs.Books.{file-validators, file-deposits, file-partials, file-consolidations}
-use Rattle.file_stores.specs.Stored.{Fits, BooksStored}
+use Rattle.table_stores.specs.Stored.{Fits, BooksStored}
 use Rattle.books_reader.specs.declared.Opened.{Opened}
 use Rattle.books_reader.specs.Read.{blank, BooksRead}
 

@@ -6,7 +6,7 @@ use books_file::books_file_ok;
 use file_acceptance::file_books_sound;
 use file_records::scalars_at;
 use file_records::settings_at;
-use file_stores::store_books;
+use table_stores::store_books;
 use primitives::Epoch;
 use primitives::Gwei;
 use primitives::Scalars;

@@ -1,10 +1,10 @@
 use Prim.Native.Nat.{_-_, _≤_}
 use native.Mathlib.Omega.{arith}
 use Rattle.file_format.specs.Words.{words}
-use Rattle.file_stores.specs.Stored.{ConsolidationsStored}
-use Rattle.file_stores.specs.Laws.{stored-none, stored-more, stored-all}
-use Rattle.file_stores.proofs.store_consolidations.Statement.{statement}
-use Rattle.file_stores.proofs.store_consolidations.Tie as tie
+use Rattle.table_stores.specs.Stored.{ConsolidationsStored}
+use Rattle.table_stores.specs.Laws.{stored-none, stored-more, stored-all}
+use Rattle.table_stores.proofs.store_consolidations.Statement.{statement}
+use Rattle.table_stores.proofs.store_consolidations.Tie as tie
 
 abbrev Inv-loop : tie.InvT-loop
 Inv-loop file k n consolidations₀ i₀ consolidations i =

@@ -21,8 +21,8 @@ ghost use Rattle.file_format.specs.Books.{validator, deposit, partial, consolid
 ghost use Rattle.file_format.specs.PlacesLaws.{Good};
 ghost use Rattle.file_records.specs.Scalars.{scalars-at};
 ghost use Rattle.file_records.specs.Lists.{Readable};
-ghost use Rattle.file_stores.specs.Stored.{ValidatorsStored, DepositsStored, PartialsStored};
-ghost use Rattle.file_stores.specs.Stored.{ConsolidationsStored, Fits, BooksStored};
+ghost use Rattle.table_stores.specs.Stored.{ValidatorsStored, DepositsStored, PartialsStored};
+ghost use Rattle.table_stores.specs.Stored.{ConsolidationsStored, Fits, BooksStored};
 
 // n validators from word 86 on, into rows 0 to n - 1.
 fn store_validators(file: &[u8], n: usize, identities: &mut [u8], validators: &mut [u64])

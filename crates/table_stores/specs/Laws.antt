@@ -20,8 +20,8 @@ use Rattle.file_records.specs.Scalars.{scalars-at}
 use Rattle.file_records.specs.Lists.{listed-from}
 use Rattle.file_records.specs.Books.{validators-counted, deposits-counted, partials-counted, consolidations-counted}
 use Rattle.file_records.specs.Books.{file-validators, file-deposits, file-partials, file-consolidations, file-books}
-use Rattle.file_stores.specs.Stored.{Stored, ValidatorsStored, DepositsStored, PartialsStored}
-use Rattle.file_stores.specs.Stored.{ConsolidationsStored, BooksStored}
+use Rattle.table_stores.specs.Stored.{Stored, ValidatorsStored, DepositsStored, PartialsStored}
+use Rattle.table_stores.specs.Stored.{ConsolidationsStored, BooksStored}
 
 -- ---- a loop that stores one record after another
 

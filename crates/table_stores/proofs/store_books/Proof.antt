@@ -8,9 +8,9 @@ use Rattle.file_records.specs.Scalars.{scalars-at}
 use Rattle.file_records.specs.Lists.{validators-readable, deposits-readable, partials-readable}
 use Rattle.file_records.specs.Lists.{consolidations-readable}
 use Rattle.file_records.specs.Books.{validators-counted, deposits-counted, partials-counted, consolidations-counted}
-use Rattle.file_stores.specs.Laws.{books-stored}
-use Rattle.file_stores.proofs.store_books.Statement.{statement}
-use Rattle.file_stores.proofs.store_books.Tie as tie
+use Rattle.table_stores.specs.Laws.{books-stored}
+use Rattle.table_stores.proofs.store_books.Statement.{statement}
+use Rattle.table_stores.proofs.store_books.Tie as tie
 
 abbrev ws : tie.Start → List ℕ
 ws c = words (c .args .file .now)

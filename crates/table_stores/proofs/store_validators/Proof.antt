@@ -1,10 +1,10 @@
 use Prim.Native.Nat.{_-_, _≤_}
 use native.Mathlib.Omega.{arith}
 use Rattle.file_format.specs.Words.{words}
-use Rattle.file_stores.specs.Stored.{ValidatorsStored}
-use Rattle.file_stores.specs.Laws.{validators-none, validators-more, validators-all}
-use Rattle.file_stores.proofs.store_validators.Statement.{statement}
-use Rattle.file_stores.proofs.store_validators.Tie as tie
+use Rattle.table_stores.specs.Stored.{ValidatorsStored}
+use Rattle.table_stores.specs.Laws.{validators-none, validators-more, validators-all}
+use Rattle.table_stores.proofs.store_validators.Statement.{statement}
+use Rattle.table_stores.proofs.store_validators.Tie as tie
 
 abbrev Inv-loop : tie.InvT-loop
 Inv-loop file n identities₀ validators₀ i₀ identities validators i =
