@@ -3,10 +3,11 @@
 use books_file::consolidations_place;
 use books_file::deposits_place;
 use books_file::partials_place;
+use file_bytes::credentials_at;
+use file_bytes::key_at;
 use file_words::count_at;
 use file_words::flag_at;
 use file_words::number_at;
-use file_words::word_at;
 use primitives::Epoch;
 use primitives::Gwei;
 use primitives::Scalars;
@@ -19,17 +20,17 @@ use records::queues::PendingPartialWithdrawal;
 use records::validator::Validator;
 ghost use mathlib.Core.Path.{_≡_};
 ghost use mathlib.Core.Bool.{true};
-ghost use Prim.Native.Nat.{_+_, _*_, _≤_, _<_, _^_};
+ghost use Prim.Native.Nat.{_+_, _*_, _≤_, _^_};
 ghost use lib.ListN.{drop};
 ghost use Rattle.tables.specs.Rows.{rows};
 ghost use Rattle.primitives.specs.Settings.{settings-of};
 ghost use Rattle.records.specs.Plain.{plain-validator, plain-deposit, plain-partial, plain-consolidation};
 ghost use Rattle.file_format.specs.Words.{words};
-ghost use Rattle.file_format.specs.Fields.{number, field};
+ghost use Rattle.file_format.specs.Fields.{number};
 ghost use Rattle.file_format.specs.Books as file;
 ghost use Rattle.file_format.specs.Books.{validator, deposit, partial, consolidation};
 ghost use Rattle.file_format.specs.Places.{number-at, settings-at};
-ghost use Rattle.file_format.specs.PlacesLaws.{Good, byte-at};
+ghost use Rattle.file_format.specs.PlacesLaws.{Good};
 ghost use Rattle.file_records.specs.Scalars.{scalars-from, scalars-at};
 
 // ---- settings and scalars
@@ -122,53 +123,6 @@ pub fn scalars_at(file: &[u8]) -> Scalars
         partials,
         consolidations,
     )
-}
-
-// ---- fields of bytes, from word k on
-
-// Byte j of a field: three bytes a word, the first highest.
-fn field_byte(file: &[u8], k: usize, j: usize) -> u8
-    requires { ⌜ (k ≤ 2 ^ 40) × (j ≤ 2 ^ 40) ⌝ }
-    requires { ⌜ byte-at (drop k (words (now file))) j < 256 ⌝ }
-    ensures { λ r. ⌜ r ≡ byte-at (drop k (words (now (file .entry)))) j ⌝ }
-{
-    let w = word_at(file, k + j / 3) % 0x1000_0000;
-    let place = j % 3;
-    if place == 0 {
-        return (w / 65536) as u8;
-    }
-    if place == 1 {
-        return (w / 256 % 256) as u8;
-    }
-    (w % 256) as u8
-}
-
-fn key_at(file: &[u8], k: usize) -> [u8; 48]
-    requires { ⌜ k ≤ 2 ^ 40 ⌝ }
-    requires { ⌜ field 48 .ok (drop k (words (now file))) ≡ true ⌝ }
-    ensures { λ r. ⌜ r ≡ field 48 .value (drop k (words (now (file .entry)))) ⌝ }
-{
-    let mut out = [0u8; 48];
-    let mut j: usize = 0;
-    while j < 48 {
-        out[j] = field_byte(file, k, j);
-        j += 1;
-    }
-    out
-}
-
-fn credentials_at(file: &[u8], k: usize) -> [u8; 32]
-    requires { ⌜ k ≤ 2 ^ 40 ⌝ }
-    requires { ⌜ field 32 .ok (drop k (words (now file))) ≡ true ⌝ }
-    ensures { λ r. ⌜ r ≡ field 32 .value (drop k (words (now (file .entry)))) ⌝ }
-{
-    let mut out = [0u8; 32];
-    let mut j: usize = 0;
-    while j < 32 {
-        out[j] = field_byte(file, k, j);
-        j += 1;
-    }
-    out
 }
 
 // ---- records, from word k on

@@ -3,7 +3,8 @@ use Prim.Native.Nat.{_+_, _-_, _*_, _≤_}
 use native.Mathlib.Omega.{arith}
 use Rattle.file_format.specs.Words.{words}
 use Rattle.file_format.specs.Places.{number-at}
-use Rattle.file_records.specs.Laws.{Filled, filled-none, filled-more, filled-all, head-number-good}
+use Rattle.file_bytes.specs.Laws.{Filled, filled-none, filled-more, filled-all}
+use Rattle.file_records.specs.Laws.{head-number-good}
 use Rattle.file_records.proofs.head_numbers.Statement.{statement}
 use Rattle.file_records.proofs.head_numbers.Tie as tie
 
