@@ -107,7 +107,7 @@ module _ (ws : List ℕ) {s : Scalars} (e : s ≡ scalars-at ws) {t u : Tables} 
       record {
         books =
             (λ j. books-with s (v₀ j) (d₀ j) (a₀ j) (c₀ j))
-            ∙ ap (λ x. books-with x (file-validators ws) (file-deposits ws) (file-partials ws) (file-consolidations ws)) e
+            ∙ (λ j. books-with (e j) (file-validators ws) (file-deposits ws) (file-partials ws) (file-consolidations ws))
             ∙ file-books ws;
         beyond = record {
           identities = v .identities-past;
