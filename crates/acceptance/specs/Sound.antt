@@ -240,9 +240,9 @@ module _ (S : Settings) (s : Scalars) (vs : List Validator) (ds : List PendingBa
 
   -- the passes before the last found nothing: the last decides
   pub consolidations-decide : (start sum amounts : ℕ) (last : Bool) → scalars-within S s ≡ true
-      → BalancesSum S vs start → start ≤ BOUND → HeldSum s ds start sum → sum ≤ BOUND → PartialsSum s ps amounts → amounts ≤ BOUND
-      → last
-      ≡ every (consolidation-in (s .validators)) cs
+      → BalancesSum S vs start → start ≤ BOUND → HeldSum s ds start sum → sum ≤ BOUND
+      → PartialsSum s ps amounts → amounts ≤ BOUND
+      → last ≡ every (consolidation-in (s .validators)) cs
       → last ≡ sound-books S books
   consolidations-decide start sum amounts last w b b-small h h-small p p-small e =
       same-test last (sound-books S books) accept

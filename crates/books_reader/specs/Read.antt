@@ -58,9 +58,9 @@ blank n = record { number = n; settings = blank-settings; scalars = blank-scalar
 
 -- ---- the promise
 
--- Reading the bytes bs into tables that held t leaves the tables u, and returns r: the number of the definition; where it
--- is 0, the settings and books that the file reads to, and past these books every word as it was; where it is not 0,
--- blank settings and scalars, and the tables as they were.
+-- Reading the bytes bs into tables that held t leaves the tables u, and returns r: the number of the definition; where
+-- it is 0, the settings and books that the file reads to, and past these books every word as it was; where it is not
+-- 0, blank settings and scalars, and the tables as they were.
 pub record BooksRead (bs : List ℕ) (t u : Tables) (r : Opened) : Type 0 where
   pub number : r .number ≡ read-answer (room-of t) bs
   pub books : r .number ≡ 0 → read-books bs ≡ some (settings-of (r .settings), books-of (r .scalars) u)

@@ -1,5 +1,5 @@
-// The reader of a books file: from lent bytes into lent tables. The whole file is judged before the first store, so that a
-// refusal leaves every buffer as it was.
+// The reader of a books file: from lent bytes into lent tables. The whole file is judged before the first store, so
+// that a refusal leaves every buffer as it was.
 use acceptance::enough_room;
 use acceptance::settings_sound;
 use books_file::books_file_ok;
@@ -19,8 +19,8 @@ ghost use Rattle.file_format.specs.Answers.{read-answer};
 ghost use Rattle.records.specs.Books.{tables, room-of};
 ghost use Rattle.books_reader.specs.Read.{blank-settings, blank-scalars, blank, BooksRead};
 
-// What the reader answers: the number of its cause, and the settings and scalars of the books that it opened; blank ones
-// where it refused.
+// What the reader answers: the number of its cause, and the settings and scalars of the books that it opened; blank
+// ones where it refused.
 pub struct Opened {
     pub number: u8,
     pub settings: Settings,

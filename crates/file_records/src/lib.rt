@@ -1,5 +1,5 @@
-// The settings, the scalars and the records of a books file, read by value where they stand. Only what was judged good is
-// read, so nothing is tested here.
+// The settings, the scalars and the records of a books file, read by value where they stand. Only what was judged good
+// is read, so nothing is tested here.
 use books_file::consolidations_place;
 use books_file::deposits_place;
 use books_file::partials_place;

@@ -45,7 +45,8 @@ same-length-5 c = search needs
 
 returns : tie.Need-returns
 returns c =
-    let b = c .before .before .before .before .before .before .before .before .before .before .before .before .before .before in
+    let b = c .before .before .before .before .before .before .before .before .before .before .before .before .before
+    .before in
     read-refused (bs b) (lent b) (c .before .before .judged .ensures) (c .before .if1 .taken) (c .refused .ensures)
 
 settings-at-requires : tie.Need-settings-at-requires

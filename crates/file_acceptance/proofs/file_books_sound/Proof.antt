@@ -45,7 +45,8 @@ start₂ c = start₁ (sum₁ c)
 abbrev start₃ : tie.After-partials-sum → tie.Start
 start₃ c = start₂ (c .before .before .before .before)
 
-passed : (c : tie.Else1) → scalars-within (S (c .before .before .before)) (c .before .before .before .args .scalars) ≡ true
+passed : (c : tie.Else1) → scalars-within (S (c .before .before .before)) (c .before .before .before .args
+    .scalars) ≡ true
 passed c = sym (c .before .scalars-within .ensures) ∙ not-false (c .before .scalars-within .result) (c .if1 .left)
 
 balances : (c : tie.After-validators-sum)
@@ -138,7 +139,8 @@ returns-5 c =
     consolidations-decide (S b) (ws b) (e b) _ _ _ _ (passed (v .before)) (balances v)
     (omega (arith, v .validators-sum, d .before .before .if2 .left)) (held d)
     (omega (arith, p .before .before .if3 .left)) (amounts p) (omega (arith, c .before .before .if4 .left))
-    (consolidations-tested (S b) (ws b) (e b) (c .before .consolidations-place .ensures) (c .consolidations-in .ensures))
+    (consolidations-tested (S b) (ws b) (e b) (c .before .consolidations-place .ensures) (c .consolidations-in
+    .ensures))
 
 pub file-books-sound-spec : {M : Type 1} → statement M
 file-books-sound-spec =

@@ -19,7 +19,8 @@ abbrev Inv-loop : tie.InvT-loop
 Inv-loop most file n sum₀ i₀ sum i =
     (i ≤ n)
     × (sum ≤ BOUND)
-    × (tested-sum (validator-within (most .0)) (λ x. x .balance) sum (drop i (records-from validator 46 86 n (words file)))
+    × (tested-sum (validator-within (most .0)) (λ x. x .balance) sum (drop i (records-from validator 46 86 n
+    (words file)))
     ≡ tested-sum (validator-within (most .0)) (λ x. x .balance) 0 (records-from validator 46 86 n (words file)))
 
 abbrev μ-loop : tie.MeasureT-loop

@@ -74,7 +74,8 @@ returns c =
     let flag = v .before in
     let credentials = flag .before in
     let a = credentials .before .before .before .args in
-    validator-read (words (a .file .now)) (a .k) (credentials .before .key-at .ensures) (credentials .credentials-at .ensures) (flag .flag-at .ensures)
+    validator-read (words (a .file .now)) (a .k) (credentials .before .key-at .ensures) (credentials .credentials-at
+    .ensures) (flag .flag-at .ensures)
     (v .number-at .ensures) (c .before .before .before .before .number-at2 .ensures)
     (c .before .before .before .number-at3 .ensures) (c .before .before .number-at4 .ensures)
     (c .before .number-at5 .ensures) (c .number-at6 .ensures)

@@ -32,7 +32,8 @@ add-store-deposits c = search needs
 
 store-deposits-requires : tie.Need-store-deposits-requires
 store-deposits-requires c κs =
-    let b = c .before .before .before .before .before .before .before .before .before .before .before .before .before .before .before in (
+    let b = c .before .before .before .before .before .before .before .before .before .before .before .before .before
+    .before .before in (
       deposits-readable (ws b) (b .pre .0) (c .before .deposits-place .ensures) (deposits-counted (ws b) (e b)),
       b .pre .1 .1 .deposits,
     )
@@ -45,7 +46,8 @@ add-store-partials c = search needs
 
 store-partials-requires : tie.Need-store-partials-requires
 store-partials-requires c κs =
-    let b = c .before .before .before .before .before .before .before .before .before .before .before .before .before .before .before .before .before .before .before .before in (
+    let b = c .before .before .before .before .before .before .before .before .before .before .before .before .before
+    .before .before .before .before .before .before .before in (
       partials-readable (ws b) (b .pre .0) (c .before .partials-place .ensures) (partials-counted (ws b) (e b)),
       b .pre .1 .1 .partials,
     )
@@ -58,7 +60,8 @@ add-store-consolidations c = search needs
 
 store-consolidations-requires : tie.Need-store-consolidations-requires
 store-consolidations-requires c κs =
-    let b = c .before .before .before .before .before .before .before .before .before .before .before .before .before .before .before .before .before .before .before .before .before .before .before .before .before in (
+    let b = c .before .before .before .before .before .before .before .before .before .before .before .before .before
+    .before .before .before .before .before .before .before .before .before .before .before .before in (
       consolidations-readable (ws b) (b .pre .0) (c .before .consolidations-place .ensures)
           (consolidations-counted (ws b) (e b)),
       b .pre .1 .1 .consolidations,
@@ -81,7 +84,9 @@ same-length-5 c = search needs
 
 returns : tie.Need-returns
 returns c =
-    let b = c .before .before .before .before .before .before .before .before .before .before .before .before .before .before .before .before .before .before .before .before .before .before .before .before .before .before .before .before in
+    let b = c .before .before .before .before .before .before .before .before .before .before .before .before .before
+    .before .before .before .before .before .before .before .before .before .before .before .before .before
+    .before .before in
     let x = c .before .before in
     let p = x .before .before .before .before .before in
     let d = p .before .before .before .before .before in

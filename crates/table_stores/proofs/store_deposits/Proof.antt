@@ -28,7 +28,12 @@ deposit-at-requires c κs =
     (omega (arith, r .small), r .good (c .before .before .loop .i) (omega arith))
 
 push-deposit-requires : tie.Need-push-deposit-requires Inv-loop μ-loop
-push-deposit-requires c κs = omega (arith, c .before .before .before .before .before .before .pre .1, c .before .before .before .loop .inv .1 .size)
+push-deposit-requires c κs = omega (
+  arith,
+  c .before .before .before .before .before .before .pre .1,
+  c .before
+      .before .before .loop .inv .1 .size,
+)
 
 add-i : tie.Need-add-i Inv-loop μ-loop
 add-i c = omega arith
@@ -39,8 +44,11 @@ loop-less c = omega arith
 loop-again : tie.Need-loop-again Inv-loop μ-loop
 loop-again c =
     let p = c .before .before .push-deposit in
-    let l = c .before .before .before .before .before .before .loop in
-    (omega arith, stored-more _ _ _ (l .inv .1) (p .ensures) (p .kept .0) (c .before .before .before .deposit-at .ensures))
+    let l = c .before .before .before .before .before .before .loop in (
+      omega arith,
+      stored-more _ _ _ (l .inv .1) (p .ensures) (p .kept .0) (c .before .before .before .deposit-at
+          .ensures),
+    )
 
 same-length : tie.Need-same-length Inv-loop μ-loop
 same-length c = c .before .loop .inv .1 .size

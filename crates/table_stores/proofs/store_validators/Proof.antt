@@ -44,7 +44,8 @@ loop-again c =
     let p = c .before .before .before .before .push-validator in
     let l = c .before .before .before .before .before .before .before .before .before .loop in (
       omega arith,
-      validators-more _ (l .inv .1) (p .ensures) (p .kept .0) (p .kept .1 .0) (c .before .before .before .before .before .validator-at .ensures),
+      validators-more _ (l .inv .1) (p .ensures) (p .kept .0) (p .kept .1 .0) (c .before .before .before .before
+          .before .validator-at .ensures),
     )
 
 same-length : tie.Need-same-length Inv-loop μ-loop
