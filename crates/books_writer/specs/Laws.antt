@@ -2,12 +2,14 @@
 use mathlib.Core.Path.{_≡_, refl, sym, ap, _∙_}
 use mathlib.Core.Bool.{true, false}
 use mathlib.Core.List.{List, [], _∷_, _++_}
-use Prim.Native.Nat.{ℕ, _+_, _*_, _≤_, _<_}
+use mathlib.Core.Option.{some}
+use Prim.Native.Nat.{ℕ, _+_, _*_, _≤_, _<_, _^_}
 use native.Mathlib.Omega.{arith}
-use lib.ListN.{length, take, length-append}
+use lib.ListN.{length, take, drop, length-append}
+use lib.Seq.{take-at}
 use lib.Dec.{ltb, eqb}
 use borrow.Author.Tests.{lt-ltb, le-ltb, ne-eqb}
-use Rattle.lists.specs.Base.{if_then_else_}
+use Rattle.lists.specs.Base.{if_then_else_, every}
 use Rattle.tables.specs.Rows.{rows}
 use Rattle.rules.specs.Types.{Settings}
 use Rattle.rules.specs.Calls.{handed-refusal}
@@ -16,11 +18,12 @@ use Rattle.primitives.specs.declared.Scalars.{Scalars}
 use Rattle.records.specs.Layout.{validator-at, deposit-at, partial-at, consolidation-at}
 use Rattle.records.specs.Books.{Tables, books-of, room-of}
 use Rattle.records.specs.Reading.{validators-count, deposits-count, partials-count, consolidations-count}
-use Rattle.acceptance.specs.Handed.{facts}
-use Rattle.file_format.specs.Words.{words, bytes, end-word, with-end}
+use Rattle.acceptance.specs.Handed.{accepted, facts}
+use Rattle.file_format.specs.Words.{words, is-byte, bytes, end-word, with-end}
 use Rattle.file_format.specs.Books.{validator, deposit, partial, consolidation, list-of, books-format}
-use Rattle.file_format.specs.File.{write-file, write-books}
+use Rattle.file_format.specs.File.{write-file, write-books, read-books}
 use Rattle.file_format.specs.FileLaws.{length-bytes}
+use Rattle.file_format.specs.Theorems.{accepted-read-written}
 use Rattle.file_format.specs.Answers.{write-answer, over}
 use Rattle.file_format.specs.PutLaws.{put}
 use Rattle.file_stores.specs.Laws.{put-next, put-length, put-closed, put-over}
@@ -28,6 +31,7 @@ use Rattle.books_writer.specs.Parts.{front-words, front-length, lists-wo
 use Rattle.books_writer.specs.Written.{BooksWritten, file-length, Ready}
 use Rattle.books_writer.specs.Lists.{validator-at-length, deposit-length, partial-length, consolidation-length}
 use Rattle.books_writer.specs.Lists.{list-length}
+use Rattle.books_writer.specs.Sized.{tables-sized}
 
 -- ---- the file
 
@@ -161,6 +165,7 @@ module _ (S : Settings) (s : Scalars) (t : Tables) where
     number = rw (← e) (rw (ne-eqb n 0 z));
     done = λ q. absurd (z q);
     refused = λ _. (refl, refl);
+    read = λ q. absurd (z q);
   }
 
   pub buffer-short : (out : List ℕ) → handed ≡ 0 → length out < file-length s → BooksWritten S s t out out 61 0
@@ -172,12 +177,27 @@ module _ (S : Settings) (s : Scalars) (t : Tables) where
         number = rw (e, lt-ltb (length out) size q);
         done = λ z. absurd (omega arith);
         refused = λ _. (refl, refl);
+        read = λ z. absurd (omega arith);
       }
 
+  -- what is written reads back: keys and credentials are bytes, and the receipt start has 64 bits
+  written-read : (out last : List ℕ) → handed ≡ 0 → every is-byte (t .identities) ≡ true
+      → s .«deposit_receipts_start_index» < 2 ^ 64 → last ≡ over (write-books S (books-of s t)) out
+      → read-books (take (file-length s) last) ≡ some (S, books-of s t)
+  written-read out last e bytes start f =
+      let b = books-of s t in
+      let a = accepted S b (room-of t) e in
+      let file = write-books S b in
+      let k = ready e in
+      ap (λ bs. read-books (take (file-length s) bs)) f
+      ∙ ap read-books (take-at file (drop (length file) out) (file-length s) (books-length S s t k))
+      ∙ accepted-read-written S b (a .settings) (a .books) (tables-sized s t k bytes start)
+
   pub all-written : (out last : List ℕ) → handed ≡ 0 → file-length s ≤ length out
+      → every is-byte (t .identities) ≡ true → s .«deposit_receipts_start_index» < 2 ^ 64
       → last ≡ over (write-books S (books-of s t)) out → BooksWritten S s t out last 0 (file-length s)
   unfolding write-answer if_then_else_
-  all-written out last e h f =
+  all-written out last e h bytes start f =
       let size = length (write-books S (books-of s t)) in
       let l = books-length S s t (ready e) in
       let q : size ≤ length out = omega arith in
@@ -185,4 +205,5 @@ module _ (S : Settings) (s : Scalars) (t : Tables) where
         number = rw (e, le-ltb (length out) size q);
         done = λ _. (sym l, f);
         refused = λ z. absurd (z refl);
+        read = λ _. written-read out last e bytes start f;
       }

@@ -2,8 +2,9 @@
 use mathlib.Core.Path.{_≡_}
 use mathlib.Core.Bool.{true}
 use mathlib.Core.List.{List}
+use mathlib.Core.Option.{some}
 use Prim.Native.Nat.{ℕ, _+_, _*_, _≤_}
-use lib.ListN.{length}
+use lib.ListN.{length, take}
 use Rattle.lists.specs.Base.{every}
 use Rattle.tables.specs.Rows.{rows}
 use Rattle.rules.specs.Types.{Settings}
@@ -13,7 +14,7 @@ use Rattle.records.specs.Layout.{validator-at}
 use Rattle.records.specs.Layout.{identities-fit, validators-fit, deposits-fit, partials-fit, consolidations-fit}
 use Rattle.records.specs.Books.{Tables, books-of, room-of}
 use Rattle.file_format.specs.Answers.{write-answer, over}
-use Rattle.file_format.specs.File.{write-books}
+use Rattle.file_format.specs.File.{write-books, read-books}
 
 -- The number n is the definition's answer. On 0 the file stands at the start of the buffer, which holds what it held
 -- past the file's `size` bytes; a refusal changes nothing.
@@ -22,6 +23,8 @@ pub record BooksWritten (S : Settings) (s : Scalars) (t : Tables) (out last : Li
   pub done :
       n ≡ 0 → (size ≡ length (write-books S (books-of s t))) × (last ≡ over (write-books S (books-of s t)) out)
   pub refused : (n ≡ 0 → ⊥) → (size ≡ 0) × (last ≡ out)
+  -- what was written reads back to the same settings and books
+  pub read : n ≡ 0 → read-books (take size last) ≡ some (S, books-of s t)
 
 -- how many bytes the file has
 abbrev pub file-length : Scalars → ℕ

@@ -1,7 +1,12 @@
 use borrow.Author.Needs.{needs}
-use mathlib.Core.Path.{sym, _∙_}
+use mathlib.Core.Path.{_≡_, sym, _∙_}
+use mathlib.Core.Bool.{true}
+use Prim.Native.Nat.{_<_, _^_}
 use native.Mathlib.Omega.{arith}
+use Rattle.lists.specs.Base.{every}
 use Rattle.records.specs.Books.{Tables, tables}
+use Rattle.file_format.specs.Words.{is-byte}
+use Rattle.books_writer.specs.Sized.{slice-bytes}
 use Rattle.books_writer.specs.Laws.{ready, handed-refused, buffer-short, all-written}
 use Rattle.books_writer.proofs.write_books.Statement.{statement}
 use Rattle.books_writer.proofs.write_books.Tie as tie
@@ -41,6 +46,13 @@ put-books-requires c κs =
       omega (arith, sized .file-length .ensures, c .before .if2 .left),
     )
 
+-- what the types say
+identities-bytes : (c : tie.After-shared-slice-known) → every is-byte (c .before .args .identities .now) ≡ true
+identities-bytes c = slice-bytes (c .before .args .identities .now) (λ i. c .shared-slice-known .given i .fits)
+
+start-small : (c : tie.Start) → c .args .scalars .«deposit_receipts_start_index» < 2 ^ 64
+start-small c = search needs
+
 same-length : tie.Need-same-length
 same-length c = search needs
 
@@ -50,9 +62,11 @@ returns-3 c =
     let tested = stored .before .before in
     let sized = tested .before in
     let begun = sized .before in
+    let lent = begun .before .before .before .before .before .before .before in
     rw (sized .file-length .ensures)
     (all-written _ _ (opened begun) _ _ (sym (begun .before .handed .ensures) ∙ begun .if1 .left)
-    (omega (arith, sized .file-length .ensures, tested .if2 .left)) (stored .put-books .ensures))
+    (omega (arith, sized .file-length .ensures, tested .if2 .left)) (identities-bytes lent) (start-small (lent .before))
+    (stored .put-books .ensures))
 
 pub write-books-spec : {M : Type 1} → statement M
 write-books-spec =

@@ -22,7 +22,12 @@ same-length : tie.Need-same-length
 same-length c = search needs
 
 returns : tie.Need-returns
-returns c = search (partial-put, needs)
+returns c =
+    let third = c .before .before in
+    let second = third .before .before .before .before in
+    let first = second .before .before .before .before in
+    partial-put _ _ _ _ _ _ (search needs) (first .put-number .ensures) (second .put-number2 .ensures)
+    (third .put-number3 .ensures)
 
 pub put-partial-spec : {M : Type 1} → statement M
 put-partial-spec =
