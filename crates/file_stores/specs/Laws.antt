@@ -61,7 +61,8 @@ number-put out o₁ o₂ o₃ k n h p q r =
 
 -- ---- a flag, and the flag of a good signature
 
-pub flag-put : (out last : List ℕ) (k f : ℕ) → last ≡ put out k ((0x70000000 + f) ∷ []) → last ≡ put out k (flag .write f)
+pub flag-put : (out last : List ℕ) (k f : ℕ) → last ≡ put out k ((0x70000000 + f) ∷ [])
+    → last ≡ put out k (flag .write f)
 unfolding flag
 flag-put out last k f e = e
 

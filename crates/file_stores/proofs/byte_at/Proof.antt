@@ -2,18 +2,13 @@ use borrow.Author.Needs.{needs}
 use Rattle.file_stores.specs.Laws.{byte-none}
 use Rattle.file_stores.proofs.byte_at.Statement.{statement}
 use Rattle.file_stores.proofs.byte_at.Tie as tie
-use Rattle.file_stores.proofs.byte_at.Reads as reads
-use Rattle.file_stores.proofs.byte_at.Lts as lts
 
--- src/lib.rt:92:16
 shared-slice-read-result : tie.Need-shared-slice-read-result
 shared-slice-read-result c = search needs
 
--- src/lib.rt:92:9
 returns : tie.Need-returns
 returns c = search needs
 
--- src/lib.rt:88:1
 returns-2 : tie.Need-returns-2
 returns-2 c = search (byte-none, needs)
 

@@ -6,10 +6,6 @@ use Rattle.file_format.specs.PutLaws.{put}
 use Rattle.file_stores.specs.Laws.{first-words, field-none, field-more, field-done}
 use Rattle.file_stores.proofs.put_field.Statement.{statement}
 use Rattle.file_stores.proofs.put_field.Tie as tie
-use Rattle.file_stores.proofs.put_field.Reads as reads
-use Rattle.file_stores.proofs.put_field.Lts as lts
-use Rattle.file_stores.proofs.field_word.Reads as field-word-reads
-use Rattle.file_stores.proofs.put_word.Reads as put-word-reads
 
 abbrev Inv-loop : tie.InvT-loop
 Inv-loop out₀ k from n i₀ out i =
@@ -18,35 +14,27 @@ Inv-loop out₀ k from n i₀ out i =
 abbrev μ-loop : tie.MeasureT-loop
 μ-loop out₀ k from n i₀ out i = n - i
 
--- src/lib.rt:121:14
 add-n : tie.Need-add-n Inv-loop μ-loop
 add-n c = search needs
 
--- src/lib.rt:123:5
 loop-holds : tie.Need-loop-holds Inv-loop μ-loop
 loop-holds c = (search needs, search needs, field-none _ _ _)
 
--- src/lib.rt:124:23
 add-put-word : tie.Need-add-put-word Inv-loop μ-loop
 add-put-word c = search needs
 
--- src/lib.rt:124:30
 field-word-requires : tie.Need-field-word-requires Inv-loop μ-loop
 field-word-requires c κs = search needs
 
--- src/lib.rt:124:9
 put-word-requires : tie.Need-put-word-requires Inv-loop μ-loop
 put-word-requires c κs = search needs
 
--- src/lib.rt:125:9
 add-i : tie.Need-add-i Inv-loop μ-loop
 add-i c = search needs
 
--- src/lib.rt:123:5
 loop-less : tie.Need-loop-less Inv-loop μ-loop
 loop-less c = search needs
 
--- src/lib.rt:123:5
 loop-again : tie.Need-loop-again Inv-loop μ-loop
 loop-again c =
     let stored = c .before .before in
@@ -57,11 +45,9 @@ loop-again c =
           (stored .put-word .ensures),
     )
 
--- src/lib.rt:117:1
 same-length : tie.Need-same-length Inv-loop μ-loop
 same-length c = search needs
 
--- src/lib.rt:117:1
 returns : tie.Need-returns Inv-loop μ-loop
 returns c = search (field-done, needs)
 

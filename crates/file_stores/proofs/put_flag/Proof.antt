@@ -2,27 +2,19 @@ use borrow.Author.Needs.{needs}
 use Rattle.file_stores.specs.Laws.{flag-put}
 use Rattle.file_stores.proofs.put_flag.Statement.{statement}
 use Rattle.file_stores.proofs.put_flag.Tie as tie
-use Rattle.file_stores.proofs.put_flag.Reads as reads
-use Rattle.file_stores.proofs.put_flag.Lts as lts
-use Rattle.file_stores.proofs.put_word.Reads as put-word-reads
 
--- src/lib.rt:39:36
 cast-put-word : tie.Need-cast-put-word
 cast-put-word c = search needs
 
--- src/lib.rt:39:22
 add-put-word : tie.Need-add-put-word
 add-put-word c = search needs
 
--- src/lib.rt:39:5
 put-word-requires : tie.Need-put-word-requires
 put-word-requires c κs = search needs
 
--- src/lib.rt:34:1
 same-length : tie.Need-same-length
 same-length c = search needs
 
--- src/lib.rt:34:1
 returns : tie.Need-returns
 returns c = search (flag-put, needs)
 

@@ -4,62 +4,46 @@ use Rattle.file_stores.specs.Laws.{word-put}
 use borrow.Author.Needs.{needs}
 use Rattle.file_stores.proofs.put_word.Statement.{statement}
 use Rattle.file_stores.proofs.put_word.Tie as tie
-use Rattle.file_stores.proofs.put_word.Reads as reads
-use Rattle.file_stores.proofs.put_word.Lts as lts
 
--- src/lib.rt:17:14
 mul-at : tie.Need-mul-at
 mul-at c = search needs
 
--- src/lib.rt:18:15
 cast-out : tie.Need-cast-out
 cast-out c = search needs
 
--- src/lib.rt:18:5
 slice-write-out : tie.Need-slice-write-out
 slice-write-out c = search needs
 
--- src/lib.rt:19:19
 cast-out-2 : tie.Need-cast-out-2
 cast-out-2 c = search needs
 
--- src/lib.rt:19:9
 add-out : tie.Need-add-out
 add-out c = search needs
 
--- src/lib.rt:19:5
 slice-write-out-2 : tie.Need-slice-write-out-2
 slice-write-out-2 c = simp length-set (omega arith)
 
--- src/lib.rt:20:19
 cast-out-3 : tie.Need-cast-out-3
 cast-out-3 c = search needs
 
--- src/lib.rt:20:9
 add-out-2 : tie.Need-add-out-2
 add-out-2 c = search needs
 
--- src/lib.rt:20:5
 slice-write-out-3 : tie.Need-slice-write-out-3
 slice-write-out-3 c = simp length-set (omega arith)
 
--- src/lib.rt:21:19
 cast-out-4 : tie.Need-cast-out-4
 cast-out-4 c = search needs
 
--- src/lib.rt:21:9
 add-out-3 : tie.Need-add-out-3
 add-out-3 c = search needs
 
--- src/lib.rt:21:5
 slice-write-out-4 : tie.Need-slice-write-out-4
 slice-write-out-4 c = simp length-set (omega arith)
 
--- src/lib.rt:13:1
 same-length : tie.Need-same-length
 same-length c = search needs
 
--- src/lib.rt:13:1
 returns : tie.Need-returns
 returns c = search (word-put, needs)
 

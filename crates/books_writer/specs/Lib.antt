@@ -1,0 +1,5 @@
+pub mod Parts
+pub mod Written
+pub mod Lists
+pub mod Laws
+pub mod Theorems
