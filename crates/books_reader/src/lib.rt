@@ -6,7 +6,6 @@ use books_file::books_file_ok;
 use file_acceptance::file_books_sound;
 use file_records::scalars_at;
 use file_records::settings_at;
-use table_stores::store_books;
 use primitives::Epoch;
 use primitives::Gwei;
 use primitives::Scalars;
@@ -14,6 +13,7 @@ use primitives::Settings;
 use primitives::ValidatorIndex;
 use primitives::WithdrawalIndex;
 use primitives::answers;
+use table_stores::store_books;
 ghost use mathlib.Core.Path.{_≡_};
 ghost use Rattle.file_format.specs.Answers.{read-answer};
 ghost use Rattle.records.specs.Books.{tables, room-of};
@@ -75,7 +75,8 @@ fn blank_scalars() -> Scalars
     }
 }
 
-fn refused(number: u8) -> Opened
+// What is answered with the number of a refusal.
+pub fn refused(number: u8) -> Opened
     ensures { λ r. ⌜ r ≡ blank number ⌝ }
 {
     let settings = blank_settings();
