@@ -4,6 +4,7 @@ pub mod Books
 pub mod Calls
 pub mod File
 pub mod Places
+pub mod Answers
 pub mod Theorems
 pub mod Example
 pub mod Refused
