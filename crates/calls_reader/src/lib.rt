@@ -1,25 +1,40 @@
 // The reader of a calls file: whether lent bytes are one, and its calls one after another, from the words where they
 // stand. Nothing is copied but what a call holds.
+use expected_withdrawals::ExpectedWithdrawals;
+use expected_withdrawals::Withdrawal;
+use file_bytes::address_at;
+use file_bytes::credentials_at;
+use file_bytes::key_at;
 use file_words::both;
 use file_words::count_at;
 use file_words::end_ok;
 use file_words::field_ok;
+use file_words::flag_at;
 use file_words::flag_ok;
 use file_words::is_word;
+use file_words::number_at;
 use file_words::number_ok;
 use file_words::numbers_ok;
 use file_words::word_at;
+use primitives::Epoch;
+use primitives::Gwei;
+use primitives::ValidatorIndex;
+use primitives::WithdrawalIndex;
 ghost use mathlib.Core.Path.{_≡_};
 ghost use mathlib.Core.Bool.{true, _&&_};
-ghost use Prim.Native.Nat.{_+_, _*_, _≤_, _^_};
+ghost use mathlib.Core.List.{map};
+ghost use Prim.Native.Nat.{_+_, _*_, _≤_, _<_, _^_};
 ghost use lib.ListN.{length, getD, drop};
+ghost use Rattle.rules.specs.Calls.{reward, penalty, deposit-receipt, voluntary-exit, withdrawal-request};
+ghost use Rattle.rules.specs.Calls.{consolidation, withdrawals};
+ghost use Rattle.expected_withdrawals.specs.Expected.{coded-withdrawal, padded, handed-list};
 ghost use Rattle.file_format.specs.Words.{words, payload};
 ghost use Rattle.file_format.specs.Fields.{many};
 ghost use Rattle.file_format.specs.Calls.{receipt-fields, exit-fields, request-fields, consolidation-fields};
 ghost use Rattle.file_format.specs.Calls.{withdrawal, withdrawals-fields, call, calls-format};
 ghost use Rattle.file_format.specs.File.{file-ok};
 ghost use Rattle.file_format.specs.Places.{count-at};
-ghost use Rattle.calls_reader.specs.Widths.{fields-width};
+ghost use Rattle.calls_reader.specs.Widths.{fields-width, code-at};
 ghost use Rattle.calls_reader.specs.Laws.{fields-ok, calls-end-ok};
 
 // ---- whether the fields of a call stand from word k on, by its code
@@ -191,4 +206,173 @@ pub fn calls_file_ok(file: &[u8]) -> bool
     let count = is_word(2, 10_000, word_at(file, 1));
     let n = calls_count(file);
     both(whole, both(head, both(count, calls_end_ok(file, n))))
+}
+
+// ---- what the call at word k holds, where it was judged good and has the code
+
+// Reward and penalty.
+pub struct Amount {
+    pub i: ValidatorIndex,
+    pub amount: Gwei,
+}
+
+pub struct Receipt {
+    pub public_key: [u8; 48],
+    pub withdrawal_credentials: [u8; 32],
+    pub amount: Gwei,
+    pub index: u64,
+    pub valid: bool,
+}
+
+pub struct Exit {
+    pub i: ValidatorIndex,
+    pub epoch: Epoch,
+    pub valid: bool,
+}
+
+pub struct Request {
+    pub source_address: [u8; 20],
+    pub public_key: [u8; 48],
+    pub amount: Gwei,
+}
+
+pub struct Consolidation {
+    pub source_index: ValidatorIndex,
+    pub target_index: ValidatorIndex,
+    pub epoch: Epoch,
+    pub valid: bool,
+}
+
+// Of the sixteen records the first `count` are withdrawals and the others are blank.
+pub struct Withdrawals {
+    pub list: [Withdrawal; 16],
+    pub count: usize,
+}
+
+// Codes 1 and 2.
+pub fn amount_at(file: &[u8], k: usize) -> Amount
+    requires { ⌜ k ≤ 2 ^ 38 ⌝ }
+    requires { ⌜ call .ok (drop k (words (now file))) ≡ true ⌝ }
+    requires { ⌜ (0 < code-at (words (now file)) k) × (code-at (words (now file)) k ≤ 2) ⌝ }
+    ensures { λ r. ⌜
+        (code-at (words (now (file .entry))) k ≡ 1
+        → reward (r .i .0) (r .amount .0) ≡ call .value (drop k (words (now (file .entry)))))
+        × (code-at (words (now (file .entry))) k ≡ 2
+        → penalty (r .i .0) (r .amount .0) ≡ call .value (drop k (words (now (file .entry)))))
+        ⌝ }
+{
+    Amount {
+        i: ValidatorIndex(number_at(file, k + 1) as usize),
+        amount: Gwei(number_at(file, k + 4)),
+    }
+}
+
+// Code 3.
+pub fn receipt_at(file: &[u8], k: usize) -> Receipt
+    requires { ⌜ k ≤ 2 ^ 38 ⌝ }
+    requires { ⌜ call .ok (drop k (words (now file))) ≡ true ⌝ }
+    requires { ⌜ code-at (words (now file)) k ≡ 3 ⌝ }
+    ensures { λ r. ⌜
+        deposit-receipt (r .«public_key») (r .«withdrawal_credentials») (r .amount .0) (r .index) (r .valid)
+        ≡ call .value (drop k (words (now (file .entry))))
+        ⌝ }
+{
+    let public_key = key_at(file, k + 1);
+    let withdrawal_credentials = credentials_at(file, k + 17);
+    Receipt {
+        public_key,
+        withdrawal_credentials,
+        amount: Gwei(number_at(file, k + 28)),
+        index: number_at(file, k + 31),
+        valid: flag_at(file, k + 34) == 1,
+    }
+}
+
+// Code 4.
+pub fn exit_at(file: &[u8], k: usize) -> Exit
+    requires { ⌜ k ≤ 2 ^ 38 ⌝ }
+    requires { ⌜ call .ok (drop k (words (now file))) ≡ true ⌝ }
+    requires { ⌜ code-at (words (now file)) k ≡ 4 ⌝ }
+    ensures { λ r. ⌜
+        voluntary-exit (r .i .0) (r .epoch .0) (r .valid) ≡ call .value (drop k (words (now (file .entry))))
+        ⌝ }
+{
+    Exit {
+        i: ValidatorIndex(number_at(file, k + 1) as usize),
+        epoch: Epoch(number_at(file, k + 4)),
+        valid: flag_at(file, k + 7) == 1,
+    }
+}
+
+// Code 5.
+pub fn request_at(file: &[u8], k: usize) -> Request
+    requires { ⌜ k ≤ 2 ^ 38 ⌝ }
+    requires { ⌜ call .ok (drop k (words (now file))) ≡ true ⌝ }
+    requires { ⌜ code-at (words (now file)) k ≡ 5 ⌝ }
+    ensures { λ r. ⌜
+        withdrawal-request (r .«source_address») (r .«public_key») (r .amount .0)
+        ≡ call .value (drop k (words (now (file .entry))))
+        ⌝ }
+{
+    let source_address = address_at(file, k + 1);
+    let public_key = key_at(file, k + 8);
+    Request {
+        source_address,
+        public_key,
+        amount: Gwei(number_at(file, k + 24)),
+    }
+}
+
+// Code 6.
+pub fn consolidation_at(file: &[u8], k: usize) -> Consolidation
+    requires { ⌜ k ≤ 2 ^ 38 ⌝ }
+    requires { ⌜ call .ok (drop k (words (now file))) ≡ true ⌝ }
+    requires { ⌜ code-at (words (now file)) k ≡ 6 ⌝ }
+    ensures { λ r. ⌜
+        consolidation (r .«source_index» .0) (r .«target_index» .0) (r .epoch .0) (r .valid)
+        ≡ call .value (drop k (words (now (file .entry))))
+        ⌝ }
+{
+    Consolidation {
+        source_index: ValidatorIndex(number_at(file, k + 1) as usize),
+        target_index: ValidatorIndex(number_at(file, k + 4) as usize),
+        epoch: Epoch(number_at(file, k + 7)),
+        valid: flag_at(file, k + 10) == 1,
+    }
+}
+
+// One withdrawal, from word k on.
+fn withdrawal_at(file: &[u8], k: usize) -> Withdrawal
+    requires { ⌜ k ≤ 2 ^ 39 ⌝ }
+    requires { ⌜ withdrawal .ok (drop k (words (now file))) ≡ true ⌝ }
+    ensures { λ r. ⌜ r ≡ coded-withdrawal (withdrawal .value (drop k (words (now (file .entry))))) ⌝ }
+{
+    let address = address_at(file, k + 6);
+    Withdrawal {
+        index: WithdrawalIndex(number_at(file, k)),
+        validator_index: ValidatorIndex(number_at(file, k + 3) as usize),
+        address,
+        amount: Gwei(number_at(file, k + 13)),
+    }
+}
+
+// Code 8.
+pub fn withdrawals_at(file: &[u8], k: usize) -> Withdrawals
+    requires { ⌜ k ≤ 2 ^ 38 ⌝ }
+    requires { ⌜ call .ok (drop k (words (now file))) ≡ true ⌝ }
+    requires { ⌜ code-at (words (now file)) k ≡ 8 ⌝ }
+    ensures { λ r. ⌜
+        (withdrawals (handed-list (r .list) (r .count)) ≡ call .value (drop k (words (now (file .entry)))))
+        × (r .list ≡ map coded-withdrawal (padded 16 (handed-list (r .list) (r .count))))
+        ⌝ }
+{
+    let count = count_at(file, k + 1);
+    let none = ExpectedWithdrawals::none();
+    let mut list = none.list;
+    let mut i: usize = 0;
+    while i < count {
+        list[i] = withdrawal_at(file, k + 2 + i * 16);
+        i += 1;
+    }
+    Withdrawals { list, count }
 }
