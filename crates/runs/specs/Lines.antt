@@ -9,11 +9,7 @@ use Rattle.rules.specs.Types.{Settings, Books}
 use Rattle.rules.specs.Acceptance.{held}
 use Rattle.rules.specs.Calls.{Call, answer, after, answers}
 use Rattle.file_format.specs.Calls.{written}
-
-pub record Line : Type 0 where
-  pub code : ℕ
-  pub answer : ℕ
-  pub total : ℕ
+use Rattle.table_text.specs.Lines.{Line, lines-words}
 
 abbrev pub line : Settings → Books → Call → Line
 line S b c = record { code = written (c .operation) .code; answer = answer S b c; total = held (after S b c) }
@@ -22,10 +18,6 @@ line S b c = record { code = written (c .operation) .code; answer = answer S b c
 abbrev pub lines : Settings → Books → List Call → List Line
 lines S b [] = []
 lines S b (c ∷ cs) = line S b c ∷ lines S (after S b c) cs
-
-abbrev pub line-words : List Line → List ℕ
-line-words [] = []
-line-words (l ∷ ls) = l .code ∷ l .answer ∷ l .total ∷ line-words ls
 
 -- line i of the results
 abbrev pub with-line : (results : List ℕ) (i code answer total : ℕ) → List ℕ
@@ -44,7 +36,7 @@ lines-length S b (c ∷ cs) = ap suc (lines-length S (after S b c) cs)
 
 -- the answer in line i
 pub line-answer : (ls : List Line) (rest : List ℕ) (i : ℕ) → i < length ls
-    → getD (line-words ls ++ rest) (3 * i + 1) 0 ≡ getD (map (λ l. l .answer) ls) i 0
+    → getD (lines-words ls ++ rest) (3 * i + 1) 0 ≡ getD (map (λ l. l .answer) ls) i 0
 line-answer [] rest i h = let z : ⊥ = omega arith in absurd z
 line-answer (l ∷ ls) rest zero h = refl
 line-answer (l ∷ ls) rest (suc i) h =
@@ -52,6 +44,6 @@ line-answer (l ∷ ls) rest (suc i) h =
     let k : i < length ls = omega arith in
     rw e (line-answer ls rest i k)
 
-pub line-words-length : (ls : List Line) → length (line-words ls) ≡ 3 * length ls
-line-words-length [] = refl
-line-words-length (l ∷ ls) = omega (arith, line-words-length ls)
+pub lines-words-length : (ls : List Line) → length (lines-words ls) ≡ 3 * length ls
+lines-words-length [] = refl
+lines-words-length (l ∷ ls) = omega (arith, lines-words-length ls)

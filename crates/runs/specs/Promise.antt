@@ -16,7 +16,8 @@ use Rattle.records.specs.Books.{Tables, books-of, room-of, call-on}
 use Rattle.carried.specs.Carried.{Demand3Carried}
 use Rattle.file_format.specs.File.{read-calls}
 use Rattle.file_format.specs.Answers.{over}
-use Rattle.runs.specs.Lines.{lines, line-words, lines-answers, lines-length, line-answer}
+use Rattle.table_text.specs.Lines.{lines-words}
+use Rattle.runs.specs.Lines.{lines, lines-answers, lines-length, line-answer}
 use Rattle.runs.specs.InPlace.{InPlace, calls-on, in-place-books, in-place-demand-3, in-place-fixed}
 
 -- ---- the answer
@@ -39,7 +40,7 @@ carry-out-answer S b r file space =
 pub record Done (S : Settings) (s : Scalars) (t u : Tables) (os : List Operation) (before after : List ℕ)
     (r : Scalars) (count : ℕ) : Type 0 where
   pub chain : InPlace S s t os r u
-  pub results : after ≡ over (line-words (lines S (books-of s t) (calls-on t os))) before
+  pub results : after ≡ over (lines-words (lines S (books-of s t) (calls-on t os))) before
   pub counted : count ≡ length os
 
 -- a refusal changes nothing
@@ -64,7 +65,7 @@ module _ {S : Settings} {s r : Scalars} {t u : Tables} {os : List Operation} {be
       let ls = lines S (books-of s t) cs in
       let k : i < length ls = omega (arith, lines-length S (books-of s t) cs, length-map os (call-on t)) in
       ap (λ l. getD l (3 * i + 1) 0) (d .results)
-      ∙ line-answer ls (drop (length (line-words ls)) before) i k
+      ∙ line-answer ls (drop (length (lines-words ls)) before) i k
       ∙ ap (λ l. getD l i 0) (lines-answers S (books-of s t) cs)
 
   pub done-demand-3 : Demand3Carried S (books-of s t) (calls-on t os) (books-of r u)

@@ -22,9 +22,9 @@ use Rattle.file_format.specs.Fields.{many}
 use Rattle.file_format.specs.FieldsLaws.{impossible}
 use Rattle.file_format.specs.Calls.{written, call, call-format}
 use Rattle.calls_reader.specs.Widths.{code-at, call-value-at, fields-good}
-use Rattle.calls_reader.specs.Calls.{call-i-good, calls-good-behind, calls-left-behind, no-calls-left}
-use Rattle.calls_reader.specs.Laws as places
-use Rattle.runs.specs.Lines.{lines, line-words, with-line, lines-length, line-words-length}
+use Rattle.calls_reader.specs.Calls.{call-i-good, calls-good-behind, calls-left-behind, no-calls-left, near}
+use Rattle.table_text.specs.Lines.{lines-words}
+use Rattle.runs.specs.Lines.{lines, with-line, lines-length, lines-words-length}
 use Rattle.runs.specs.InPlace.{InPlace, none, next, calls-on, sizes-none, sizes-then, same-room}
 use Rattle.runs.specs.Ready.{Accepted, CallAt, operation-at, CallsAt, operations-at, Written}
 use Rattle.runs.specs.Promise.{Done}
@@ -154,8 +154,8 @@ pub record Running (S : rule.Settings) (s₀ : Scalars) (t₀ : Tables) (os : Li
   pub chain : (r : Scalars) (u : Tables) → InPlace S s t left r u → InPlace S s₀ t₀ os r u
   pub sizes : SameSizes t t₀
   pub accepted : Accepted S s t
-  pub lines : take (3 * i) results ++ line-words (lines S (books-of s t) (calls-on t₀ left))
-      ≡ line-words (lines S (books-of s₀ t₀) (calls-on t₀ os))
+  pub lines : take (3 * i) results ++ lines-words (lines S (books-of s t) (calls-on t₀ left))
+      ≡ lines-words (lines S (books-of s₀ t₀) (calls-on t₀ os))
   pub past : drop (3 * i) results ≡ drop (3 * i) before
   pub long : length results ≡ length before
 
@@ -188,7 +188,7 @@ module _ {S : rule.Settings} {s₀ : Scalars} {t₀ : Tables} {os : List Operati
       code = written op .code
 
       rest : List ℕ
-      rest = line-words (lines S (books-of r u) (calls-on t₀ left))
+      rest = lines-words (lines S (books-of r u) (calls-on t₀ left))
 
       same-books : books-of r u ≡ after S (books-of s t) (call-on t₀ op)
       same-books =
@@ -200,16 +200,16 @@ module _ {S : rule.Settings} {s₀ : Scalars} {t₀ : Tables} {os : List Operati
           w .called .number
           ∙ ap (λ m. answer S (books-of s t) (record { room = m; operation = op })) (same-room (inv .sizes))
 
-      one-line : take (3 * (i + 1)) new ++ line-words (lines S (books-of r u) (calls-on t₀ left))
-          ≡ line-words (lines S (books-of s₀ t₀) (calls-on t₀ os))
+      one-line : take (3 * (i + 1)) new ++ lines-words (lines S (books-of r u) (calls-on t₀ left))
+          ≡ lines-words (lines S (books-of s₀ t₀) (calls-on t₀ os))
       one-line =
-          ap (λ f. f ++ line-words (lines S (books-of r u) (calls-on t₀ left)))
+          ap (λ f. f ++ lines-words (lines S (books-of r u) (calls-on t₀ left)))
           (ap (take (3 * (i + 1))) (w .results) ∙ line-front results i _ _ _ h)
           ∙ append-assoc (take (3 * i) results) (written op .code ∷ w .number ∷ held (books-of r u) ∷ [])
-          (line-words (lines S (books-of r u) (calls-on t₀ left)))
+          (lines-words (lines S (books-of r u) (calls-on t₀ left)))
           ∙ (λ j. take (3 * i) results
           ++ (written op .code ∷ same-number j ∷ held (same-books j)
-          ∷ line-words (lines S (same-books j) (calls-on t₀ left))))
+          ∷ lines-words (lines S (same-books j) (calls-on t₀ left))))
           ∙ inv .lines
 
       behind : drop (3 * (i + 1)) results ≡ drop (3 * (i + 1)) before
@@ -229,13 +229,13 @@ module _ {S : rule.Settings} {s₀ : Scalars} {t₀ : Tables} {os : List Operati
   }
     where
       whole : List ℕ
-      whole = line-words (lines S (books-of s₀ t₀) (calls-on t₀ os))
+      whole = lines-words (lines S (books-of s₀ t₀) (calls-on t₀ os))
 
       size : 3 * i ≡ length whole
       size = omega (
         arith,
         e,
-        line-words-length (lines S (books-of s₀ t₀) (calls-on t₀ os)),
+        lines-words-length (lines S (books-of s₀ t₀) (calls-on t₀ os)),
         lines-length S (books-of s₀ t₀) (calls-on t₀ os),
         length-map os (call-on t₀),
       )
@@ -286,7 +286,7 @@ module _ {S : rule.Settings} {s₀ : Scalars} {t₀ : Tables} {file : List ℕ} 
         running = running-more (rw (calls-left-behind ws n i k l behind e) at (inv .running)) w z
             (carrying-room l h);
         good = calls-good-behind ws n i k l behind e (inv .good);
-        near = omega (arith, places.near ws k behind g e b, inv .near);
+        near = omega (arith, near ws k behind g e b, inv .near);
         most = omega arith;
       }
 

@@ -5,10 +5,11 @@ use mathlib.Core.List.{[], _∷_}
 use Rattle.rules.specs.Calls.{turn, voluntary-exit}
 use Rattle.rules.specs.Examples.{mainnet, call, opened}
 use Rattle.file_format.specs.Example.{opening}
-use Rattle.runs.specs.Lines.{lines, line-words}
+use Rattle.table_text.specs.Lines.{lines-words}
+use Rattle.runs.specs.Lines.{lines}
 
 pub example-lines :
-    line-words (lines mainnet opening
+    lines-words (lines mainnet opening
     (call turn ∷ call (voluntary-exit 0 1000 true) ∷ call (voluntary-exit 0 1000 true) ∷ []))
     ≡ 7 ∷ 0 ∷ 41_000_000_000
     ∷ 4 ∷ 0 ∷ 41_000_000_000
