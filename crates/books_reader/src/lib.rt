@@ -75,7 +75,8 @@ fn blank_scalars() -> Scalars
     }
 }
 
-fn refused(number: u8) -> Opened
+// What is answered with the number of a refusal.
+pub fn refused(number: u8) -> Opened
     ensures { λ r. ⌜ r ≡ blank number ⌝ }
 {
     let settings = blank_settings();

@@ -5,12 +5,12 @@ use primitives::Scalars;
 use primitives::Settings;
 use primitives::answers;
 ghost use mathlib.Core.Path.{_≡_};
-ghost use Rattle.rules.specs.Calls.{turn};
+ghost use Rattle.rules.specs.Calls.{handed-refusal, turn};
 ghost use Rattle.primitives.specs.Settings.{settings-of};
-ghost use Rattle.records.specs.Books.{tables, Called};
+ghost use Rattle.records.specs.Books.{tables, books-of, room-of, Called};
 
-// The three steps, then the next epoch.
-pub fn turn(
+// The three steps, then the next epoch, on books that the tests accepted.
+pub fn turn_accepted(
     settings: Settings,
     scalars: Scalars,
     identities: &mut [u8],
@@ -19,6 +19,13 @@ pub fn turn(
     partials: &[u64],
     consolidations: &mut [u64],
 ) -> Outcome
+    requires { ⌜
+        handed-refusal (settings-of settings)
+        (books-of scalars
+        (tables (now identities) (now validators) (now deposits) (now partials) (now consolidations)))
+        (room-of (tables (now identities) (now validators) (now deposits) (now partials) (now consolidations)))
+        ≡ 0
+        ⌝ }
     ensures { λ r. ⌜
         Called (settings-of settings) turn scalars
         (tables (now (identities .entry)) (now (validators .entry)) (now (deposits .entry))
@@ -27,21 +34,6 @@ pub fn turn(
         (now (partials .entry)) (now (consolidations .exit))) (r .number) (r .scalars)
         ⌝ }
 {
-    let handed = acceptance::handed(
-        settings,
-        scalars,
-        identities,
-        validators,
-        deposits,
-        partials,
-        consolidations,
-    );
-    if handed != answers::DONE {
-        return Outcome {
-            number: handed,
-            scalars,
-        };
-    }
     let allowance = helpers::churn::get_activation_exit_churn_limit(settings, scalars, validators);
     if !queue_room::turn_fits(
         settings,
@@ -77,4 +69,48 @@ pub fn turn(
         number: answers::DONE,
         scalars: after,
     }
+}
+
+// The three steps, then the next epoch.
+pub fn turn(
+    settings: Settings,
+    scalars: Scalars,
+    identities: &mut [u8],
+    validators: &mut [u64],
+    deposits: &mut [u64],
+    partials: &[u64],
+    consolidations: &mut [u64],
+) -> Outcome
+    ensures { λ r. ⌜
+        Called (settings-of settings) turn scalars
+        (tables (now (identities .entry)) (now (validators .entry)) (now (deposits .entry))
+        (now (partials .entry)) (now (consolidations .entry)))
+        (tables (now (identities .exit)) (now (validators .exit)) (now (deposits .exit))
+        (now (partials .entry)) (now (consolidations .exit))) (r .number) (r .scalars)
+        ⌝ }
+{
+    let handed = acceptance::handed(
+        settings,
+        scalars,
+        identities,
+        validators,
+        deposits,
+        partials,
+        consolidations,
+    );
+    if handed != answers::DONE {
+        return Outcome {
+            number: handed,
+            scalars,
+        };
+    }
+    turn_accepted(
+        settings,
+        scalars,
+        identities,
+        validators,
+        deposits,
+        partials,
+        consolidations,
+    )
 }

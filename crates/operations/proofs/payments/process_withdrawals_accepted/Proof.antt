@@ -1,0 +1,161 @@
+use mathlib.Core.Path.{_≡_, sym, _∙_}
+use mathlib.Core.List.{List}
+use Prim.Native.Nat.{_≤_, _<_}
+use native.Mathlib.Omega.{arith}
+use borrow.Author.Needs.{needs}
+use Rattle.rules.specs.Types.{BOUND, Books, Withdrawal}
+use Rattle.rules.specs.BlockProcessing.{withdrawals-refusal, next-index}
+use Rattle.primitives.specs.Settings.{settings-of}
+use Rattle.records.specs.Books.{Tables, tables, books-of}
+use Rattle.expected_withdrawals.specs.Expected.{expected-of, handed-list}
+use Rattle.electra.specs.Epoch.{settings-true, room-true, books-true}
+use Rattle.operations.specs.Payments.{listing-ready, listed-count, paying-ready}
+use Rattle.operations.specs.Payments.{expected-same, payments-refused, payments-late, payments-done}
+use Rattle.operations.proofs.payments.process_withdrawals_accepted.Statement.{statement}
+use Rattle.operations.proofs.payments.process_withdrawals_accepted.Tie as tie
+use Rattle.operations.proofs.payments.process_withdrawals_accepted.Reads as reads
+use Rattle.operations.proofs.payments.process_withdrawals_accepted.Lts as lts
+use Rattle.expected_withdrawals.proofs.get_expected_withdrawals.Reads as get-expected-withdrawals-reads
+use Rattle.withdrawals.proofs.next_index.Reads as next-index-reads
+use Rattle.withdrawals.proofs.process_withdrawals.Reads as process-withdrawals-reads
+use Rattle.withdrawals.proofs.withdrawals_refusal.Reads as withdrawals-refusal-reads
+
+abbrev lent : tie.Start → Tables
+lent c =
+    tables (c .args .identities .now) (c .args .validators .now) (c .args .deposits .now) (c .args .partials .now)
+    (c .args .consolidations .now)
+
+abbrev opening : tie.Start → Books
+opening c = books-of (c .args .scalars) (lent c)
+
+abbrev asked : tie.Start → List Withdrawal
+asked c = handed-list (c .args .list) (c .args .n)
+
+-- the list that was computed is the expected one
+listed : (c : tie.After-get-expected-withdrawals)
+    → c .get-expected-withdrawals .result ≡ expected-of (settings-of (c .before .before .before .before .before
+    .before .before .before .args .settings)) (opening (c .before .before .before .before .before .before .before
+    .before))
+listed c =
+    let a = c .before .before .before .before .before .before .before .before .args in
+    c .get-expected-withdrawals .ensures (a .deposits .now) (a .consolidations .now)
+
+-- the number of the comparison
+compared : (c : tie.After-withdrawals-refusal)
+    → c .withdrawals-refusal .result
+    ≡ withdrawals-refusal (settings-of (c .before .before .before .before .before .before .before .before .before
+    .args .settings)) (opening (c .before .before .before .before .before .before .before .before .before)) (asked (c
+    .before .before .before .before .before .before .before .before .before))
+compared c = c .withdrawals-refusal .ensures _ _ (listed (c .before))
+
+-- src/payments.rt:42:9
+get-expected-withdrawals-requires : tie.Need-get-expected-withdrawals-requires
+get-expected-withdrawals-requires c κs = listing-ready _ _ _ (c .before .before .before .before .before .before
+    .before .pre)
+
+-- src/payments.rt:49:9
+withdrawals-refusal-requires : tie.Need-withdrawals-refusal-requires
+withdrawals-refusal-requires c κs = listed-count _ _ _ (c .before .before .before .before .before .before .before
+    .before .pre) (listed c)
+
+-- src/payments.rt:51:9
+same-length : tie.Need-same-length
+same-length c = search needs
+
+-- src/payments.rt:51:9
+same-length-2 : tie.Need-same-length-2
+same-length-2 c = search needs
+
+-- src/payments.rt:51:9
+returns : tie.Need-returns
+returns c = payments-refused _ _ _ _ (c .before .before .before .before .before .before .before .before .before
+    .before .pre) _ (compared (c .before)) (c .if1 .taken)
+
+-- src/payments.rt:56:9
+next-index-requires : tie.Need-next-index-requires
+next-index-requires c κs =
+    let start = c .before .before .before .before .before .before .before .before .before .before in
+    let k = paying-ready _ _ _ (start .pre) (start .args .list) (start .args .n) (listed (c .before .before))
+    (sym (compared (c .before)) ∙ c .if1 .left) in
+    (k .count, k .index)
+
+-- src/payments.rt:58:9
+same-length-3 : tie.Need-same-length-3
+same-length-3 c = search needs
+
+-- src/payments.rt:58:9
+same-length-4 : tie.Need-same-length-4
+same-length-4 c = search needs
+
+-- src/payments.rt:58:9
+returns-2 : tie.Need-returns-2
+returns-2 c =
+    let start = c .before .before .before .before .before .before .before .before .before .before .before .before
+    .before in
+    let over : BOUND < next-index (opening start) (asked start) =
+    omega (arith, c .before .before .next-index .ensures (lent start), c .if2 .taken) in
+    payments-late _ _ _ _ (start .pre) (sym (compared (c .before .before .before .before)) ∙ c .before .before
+    .before .if1 .left) over
+
+-- src/payments.rt:63:9
+process-withdrawals-requires : tie.Need-process-withdrawals-requires
+process-withdrawals-requires c κs =
+    let h = c .before .before .before .before .before .before .before .before .before .before .before .before .before
+    .before .before .pre in (
+      settings-true _ _ _ h,
+      (
+        room-true _ _ _ h,
+        (
+          books-true _ _ _ h,
+          (
+            listed (c .before .before .before .before .before .before .before),
+            expected-same _ _ _ _ h (sym (compared
+                (c .before .before .before .before .before .before)) ∙ c .before .before .before .before .before .if1
+                .left),
+          ),
+        ),
+      ),
+    )
+
+-- src/payments.rt:15:1
+same-length-5 : tie.Need-same-length-5
+same-length-5 c = search needs
+
+-- src/payments.rt:15:1
+same-length-6 : tie.Need-same-length-6
+same-length-6 c = search needs
+
+-- src/payments.rt:15:1
+returns-3 : tie.Need-returns-3
+returns-3 c =
+    let start = c .before .before .before .before .before .before .before .before .before .before .before .before
+    .before .before .before .before .before .before .before .before in
+    let within : next-index (opening start) (asked start) ≤ BOUND =
+    omega (
+      arith,
+      c .before .before .before .before .before .before .before .before .before .next-index .ensures
+          (lent start),
+      c .before .before .before .before .before .before .before .if2 .left,
+    ) in
+    payments-done _ _ _ _ (start .pre) (sym (compared (c .before .before .before .before .before .before .before
+    .before .before .before .before)) ∙ c .before .before .before .before .before .before .before .before .before
+    .before .if1 .left) within
+    (c .before .before .before .before .process-withdrawals .ensures)
+
+pub process-withdrawals-accepted-spec : {M : Type 1} → statement M
+process-withdrawals-accepted-spec =
+    tie.close
+    (tie.spec
+    get-expected-withdrawals-requires
+    withdrawals-refusal-requires
+    same-length
+    same-length-2
+    returns
+    next-index-requires
+    same-length-3
+    same-length-4
+    returns-2
+    process-withdrawals-requires
+    same-length-5
+    same-length-6
+    returns-3)

@@ -1,0 +1,7 @@
+pub mod Lines
+pub mod InPlace
+pub mod Promise
+pub mod Ready
+pub mod Steps
+pub mod Answers
+pub mod Worked

@@ -1,0 +1,468 @@
+// One call of a calls file, carried out on accepted books. The file was judged good, and the call stands at word k.
+use primitives::Outcome;
+use primitives::Scalars;
+use primitives::Settings;
+ghost use mathlib.Core.Path.{_≡_};
+ghost use Rattle.primitives.specs.Settings.{settings-of};
+ghost use Rattle.records.specs.Books.{tables, Called};
+ghost use Rattle.file_format.specs.Words.{words};
+ghost use Rattle.calls_reader.specs.Widths.{code-at};
+ghost use Rattle.runs.specs.Ready.{Accepted, CallAt, operation-at};
+
+// Code 1.
+fn reward(
+    settings: Settings,
+    scalars: Scalars,
+    identities: &[u8],
+    validators: &mut [u64],
+    deposits: &[u64],
+    partials: &[u64],
+    consolidations: &[u64],
+    file: &[u8],
+    k: usize,
+) -> Outcome
+    requires { ⌜
+        Accepted (settings-of settings) scalars
+        (tables (now identities) (now validators) (now deposits) (now partials) (now consolidations))
+        ⌝ }
+    requires { ⌜ CallAt (now file) k ⌝ }
+    requires { ⌜ code-at (words (now file)) k ≡ 1 ⌝ }
+    ensures { λ r. ⌜
+        Called (settings-of settings) (operation-at (now (file .entry)) k) scalars
+        (tables (now (identities .entry)) (now (validators .entry)) (now (deposits .entry))
+        (now (partials .entry)) (now (consolidations .entry)))
+        (tables (now (identities .entry)) (now (validators .exit)) (now (deposits .entry))
+        (now (partials .entry)) (now (consolidations .entry))) (r .number) (r .scalars)
+        ⌝ }
+{
+    let call = calls_reader::amount_at(file, k);
+    electra::reward::reward_accepted(
+        settings,
+        scalars,
+        identities,
+        validators,
+        deposits,
+        partials,
+        consolidations,
+        call.i,
+        call.amount,
+    )
+}
+
+// Code 2.
+fn penalty(
+    settings: Settings,
+    scalars: Scalars,
+    identities: &[u8],
+    validators: &mut [u64],
+    deposits: &[u64],
+    partials: &[u64],
+    consolidations: &[u64],
+    file: &[u8],
+    k: usize,
+) -> Outcome
+    requires { ⌜
+        Accepted (settings-of settings) scalars
+        (tables (now identities) (now validators) (now deposits) (now partials) (now consolidations))
+        ⌝ }
+    requires { ⌜ CallAt (now file) k ⌝ }
+    requires { ⌜ code-at (words (now file)) k ≡ 2 ⌝ }
+    ensures { λ r. ⌜
+        Called (settings-of settings) (operation-at (now (file .entry)) k) scalars
+        (tables (now (identities .entry)) (now (validators .entry)) (now (deposits .entry))
+        (now (partials .entry)) (now (consolidations .entry)))
+        (tables (now (identities .entry)) (now (validators .exit)) (now (deposits .entry))
+        (now (partials .entry)) (now (consolidations .entry))) (r .number) (r .scalars)
+        ⌝ }
+{
+    let call = calls_reader::amount_at(file, k);
+    electra::penalty::penalty_accepted(
+        settings,
+        scalars,
+        identities,
+        validators,
+        deposits,
+        partials,
+        consolidations,
+        call.i,
+        call.amount,
+    )
+}
+
+// Code 3.
+fn deposit_receipt(
+    settings: Settings,
+    scalars: Scalars,
+    identities: &mut [u8],
+    validators: &mut [u64],
+    deposits: &mut [u64],
+    partials: &[u64],
+    consolidations: &[u64],
+    file: &[u8],
+    k: usize,
+) -> Outcome
+    requires { ⌜
+        Accepted (settings-of settings) scalars
+        (tables (now identities) (now validators) (now deposits) (now partials) (now consolidations))
+        ⌝ }
+    requires { ⌜ CallAt (now file) k ⌝ }
+    requires { ⌜ code-at (words (now file)) k ≡ 3 ⌝ }
+    ensures { λ r. ⌜
+        Called (settings-of settings) (operation-at (now (file .entry)) k) scalars
+        (tables (now (identities .entry)) (now (validators .entry)) (now (deposits .entry))
+        (now (partials .entry)) (now (consolidations .entry)))
+        (tables (now (identities .exit)) (now (validators .exit)) (now (deposits .exit))
+        (now (partials .entry)) (now (consolidations .entry))) (r .number) (r .scalars)
+        ⌝ }
+{
+    let call = calls_reader::receipt_at(file, k);
+    let public_key = call.public_key;
+    let withdrawal_credentials = call.withdrawal_credentials;
+    block_processing::receipts::process_deposit_receipt(
+        settings,
+        scalars,
+        identities,
+        validators,
+        deposits,
+        partials,
+        consolidations,
+        public_key,
+        withdrawal_credentials,
+        call.amount,
+        call.index,
+        call.valid,
+    )
+}
+
+// Code 4.
+fn voluntary_exit(
+    settings: Settings,
+    scalars: Scalars,
+    identities: &[u8],
+    validators: &mut [u64],
+    deposits: &[u64],
+    partials: &[u64],
+    consolidations: &[u64],
+    file: &[u8],
+    k: usize,
+) -> Outcome
+    requires { ⌜
+        Accepted (settings-of settings) scalars
+        (tables (now identities) (now validators) (now deposits) (now partials) (now consolidations))
+        ⌝ }
+    requires { ⌜ CallAt (now file) k ⌝ }
+    requires { ⌜ code-at (words (now file)) k ≡ 4 ⌝ }
+    ensures { λ r. ⌜
+        Called (settings-of settings) (operation-at (now (file .entry)) k) scalars
+        (tables (now (identities .entry)) (now (validators .entry)) (now (deposits .entry))
+        (now (partials .entry)) (now (consolidations .entry)))
+        (tables (now (identities .entry)) (now (validators .exit)) (now (deposits .entry))
+        (now (partials .entry)) (now (consolidations .entry))) (r .number) (r .scalars)
+        ⌝ }
+{
+    let call = calls_reader::exit_at(file, k);
+    block_processing::exits::process_voluntary_exit(
+        settings,
+        scalars,
+        identities,
+        validators,
+        deposits,
+        partials,
+        consolidations,
+        call.i,
+        call.epoch,
+        call.valid,
+    )
+}
+
+// Code 5.
+fn withdrawal_request(
+    settings: Settings,
+    scalars: Scalars,
+    identities: &[u8],
+    validators: &mut [u64],
+    deposits: &[u64],
+    partials: &mut [u64],
+    consolidations: &[u64],
+    file: &[u8],
+    k: usize,
+) -> Outcome
+    requires { ⌜
+        Accepted (settings-of settings) scalars
+        (tables (now identities) (now validators) (now deposits) (now partials) (now consolidations))
+        ⌝ }
+    requires { ⌜ CallAt (now file) k ⌝ }
+    requires { ⌜ code-at (words (now file)) k ≡ 5 ⌝ }
+    ensures { λ r. ⌜
+        Called (settings-of settings) (operation-at (now (file .entry)) k) scalars
+        (tables (now (identities .entry)) (now (validators .entry)) (now (deposits .entry))
+        (now (partials .entry)) (now (consolidations .entry)))
+        (tables (now (identities .entry)) (now (validators .exit)) (now (deposits .entry))
+        (now (partials .exit)) (now (consolidations .entry))) (r .number) (r .scalars)
+        ⌝ }
+{
+    let call = calls_reader::request_at(file, k);
+    let source_address = call.source_address;
+    let public_key = call.public_key;
+    block_processing::requests::process_execution_layer_withdrawal_request(
+        settings,
+        scalars,
+        identities,
+        validators,
+        deposits,
+        partials,
+        consolidations,
+        source_address,
+        public_key,
+        call.amount,
+    )
+}
+
+// Code 6.
+fn consolidation(
+    settings: Settings,
+    scalars: Scalars,
+    identities: &[u8],
+    validators: &mut [u64],
+    deposits: &[u64],
+    partials: &[u64],
+    consolidations: &mut [u64],
+    file: &[u8],
+    k: usize,
+) -> Outcome
+    requires { ⌜
+        Accepted (settings-of settings) scalars
+        (tables (now identities) (now validators) (now deposits) (now partials) (now consolidations))
+        ⌝ }
+    requires { ⌜ CallAt (now file) k ⌝ }
+    requires { ⌜ code-at (words (now file)) k ≡ 6 ⌝ }
+    ensures { λ r. ⌜
+        Called (settings-of settings) (operation-at (now (file .entry)) k) scalars
+        (tables (now (identities .entry)) (now (validators .entry)) (now (deposits .entry))
+        (now (partials .entry)) (now (consolidations .entry)))
+        (tables (now (identities .entry)) (now (validators .exit)) (now (deposits .entry))
+        (now (partials .entry)) (now (consolidations .exit))) (r .number) (r .scalars)
+        ⌝ }
+{
+    let call = calls_reader::consolidation_at(file, k);
+    block_processing::consolidations::process_consolidation(
+        settings,
+        scalars,
+        identities,
+        validators,
+        deposits,
+        partials,
+        consolidations,
+        call.source_index,
+        call.target_index,
+        call.epoch,
+        call.valid,
+    )
+}
+
+// Code 7 has no fields.
+fn turn(
+    settings: Settings,
+    scalars: Scalars,
+    identities: &mut [u8],
+    validators: &mut [u64],
+    deposits: &mut [u64],
+    partials: &[u64],
+    consolidations: &mut [u64],
+    file: &[u8],
+    k: usize,
+) -> Outcome
+    requires { ⌜
+        Accepted (settings-of settings) scalars
+        (tables (now identities) (now validators) (now deposits) (now partials) (now consolidations))
+        ⌝ }
+    requires { ⌜ CallAt (now file) k ⌝ }
+    requires { ⌜ code-at (words (now file)) k ≡ 7 ⌝ }
+    ensures { λ r. ⌜
+        Called (settings-of settings) (operation-at (now (file .entry)) k) scalars
+        (tables (now (identities .entry)) (now (validators .entry)) (now (deposits .entry))
+        (now (partials .entry)) (now (consolidations .entry)))
+        (tables (now (identities .exit)) (now (validators .exit)) (now (deposits .exit))
+        (now (partials .entry)) (now (consolidations .exit))) (r .number) (r .scalars)
+        ⌝ }
+{
+    electra::turns::turn_accepted(
+        settings,
+        scalars,
+        identities,
+        validators,
+        deposits,
+        partials,
+        consolidations,
+    )
+}
+
+// Code 8.
+fn withdrawals(
+    settings: Settings,
+    scalars: Scalars,
+    identities: &[u8],
+    validators: &mut [u64],
+    deposits: &[u64],
+    partials: &mut [u64],
+    consolidations: &[u64],
+    file: &[u8],
+    k: usize,
+) -> Outcome
+    requires { ⌜
+        Accepted (settings-of settings) scalars
+        (tables (now identities) (now validators) (now deposits) (now partials) (now consolidations))
+        ⌝ }
+    requires { ⌜ CallAt (now file) k ⌝ }
+    requires { ⌜ code-at (words (now file)) k ≡ 8 ⌝ }
+    ensures { λ r. ⌜
+        Called (settings-of settings) (operation-at (now (file .entry)) k) scalars
+        (tables (now (identities .entry)) (now (validators .entry)) (now (deposits .entry))
+        (now (partials .entry)) (now (consolidations .entry)))
+        (tables (now (identities .entry)) (now (validators .exit)) (now (deposits .entry))
+        (now (partials .exit)) (now (consolidations .entry))) (r .number) (r .scalars)
+        ⌝ }
+{
+    let call = calls_reader::withdrawals_at(file, k);
+    let list = call.list;
+    operations::payments::process_withdrawals_accepted(
+        settings,
+        scalars,
+        identities,
+        validators,
+        deposits,
+        partials,
+        consolidations,
+        list,
+        call.count,
+    )
+}
+
+pub fn carry_out_call(
+    settings: Settings,
+    scalars: Scalars,
+    identities: &mut [u8],
+    validators: &mut [u64],
+    deposits: &mut [u64],
+    partials: &mut [u64],
+    consolidations: &mut [u64],
+    file: &[u8],
+    k: usize,
+) -> Outcome
+    requires { ⌜
+        Accepted (settings-of settings) scalars
+        (tables (now identities) (now validators) (now deposits) (now partials) (now consolidations))
+        ⌝ }
+    requires { ⌜ CallAt (now file) k ⌝ }
+    ensures { λ r. ⌜
+        Called (settings-of settings) (operation-at (now (file .entry)) k) scalars
+        (tables (now (identities .entry)) (now (validators .entry)) (now (deposits .entry))
+        (now (partials .entry)) (now (consolidations .entry)))
+        (tables (now (identities .exit)) (now (validators .exit)) (now (deposits .exit))
+        (now (partials .exit)) (now (consolidations .exit))) (r .number) (r .scalars)
+        ⌝ }
+{
+    let code = calls_reader::code_at(file, k);
+    if code == 1 {
+        return reward(
+            settings,
+            scalars,
+            identities,
+            validators,
+            deposits,
+            partials,
+            consolidations,
+            file,
+            k,
+        );
+    }
+    if code == 2 {
+        return penalty(
+            settings,
+            scalars,
+            identities,
+            validators,
+            deposits,
+            partials,
+            consolidations,
+            file,
+            k,
+        );
+    }
+    if code == 3 {
+        return deposit_receipt(
+            settings,
+            scalars,
+            identities,
+            validators,
+            deposits,
+            partials,
+            consolidations,
+            file,
+            k,
+        );
+    }
+    if code == 4 {
+        return voluntary_exit(
+            settings,
+            scalars,
+            identities,
+            validators,
+            deposits,
+            partials,
+            consolidations,
+            file,
+            k,
+        );
+    }
+    if code == 5 {
+        return withdrawal_request(
+            settings,
+            scalars,
+            identities,
+            validators,
+            deposits,
+            partials,
+            consolidations,
+            file,
+            k,
+        );
+    }
+    if code == 6 {
+        return consolidation(
+            settings,
+            scalars,
+            identities,
+            validators,
+            deposits,
+            partials,
+            consolidations,
+            file,
+            k,
+        );
+    }
+    if code == 7 {
+        return turn(
+            settings,
+            scalars,
+            identities,
+            validators,
+            deposits,
+            partials,
+            consolidations,
+            file,
+            k,
+        );
+    }
+    withdrawals(
+        settings,
+        scalars,
+        identities,
+        validators,
+        deposits,
+        partials,
+        consolidations,
+        file,
+        k,
+    )
+}

@@ -1,0 +1,145 @@
+// The calls of a file, carried out on lent books that are tested once.
+pub mod calls; // one call
+pub mod lines; // one call with its line in the results
+
+use primitives::Scalars;
+use primitives::Settings;
+use primitives::answers;
+ghost use mathlib.Core.Path.{_≡_};
+ghost use Prim.Native.Nat.{_*_, _≤_};
+ghost use lib.ListN.{length};
+ghost use Rattle.primitives.specs.Settings.{settings-of};
+ghost use Rattle.records.specs.Books.{tables};
+ghost use Rattle.runs.specs.Ready.{Accepted, CallsAt, operations-at};
+ghost use Rattle.runs.specs.Promise.{Done, CarriedOut};
+
+// What carrying out a calls file answers: the number of its cause, the scalars that it leaves, and how many calls were
+// carried out.
+pub struct Carried {
+    pub number: u8,
+    pub scalars: Scalars,
+    pub count: usize,
+}
+
+// The n calls of a file that was judged good.
+fn carry_out_calls(
+    settings: Settings,
+    scalars: Scalars,
+    identities: &mut [u8],
+    validators: &mut [u64],
+    deposits: &mut [u64],
+    partials: &mut [u64],
+    consolidations: &mut [u64],
+    file: &[u8],
+    n: usize,
+    results: &mut [u64],
+) -> Scalars
+    requires { ⌜
+        Accepted (settings-of settings) scalars
+        (tables (now identities) (now validators) (now deposits) (now partials) (now consolidations))
+        ⌝ }
+    requires { ⌜ CallsAt (now file) n ⌝ }
+    requires { ⌜ 3 * n ≤ length (now results) ⌝ }
+    ensures { λ r. ⌜
+        Done (settings-of settings) scalars
+        (tables (now (identities .entry)) (now (validators .entry)) (now (deposits .entry))
+        (now (partials .entry)) (now (consolidations .entry)))
+        (tables (now (identities .exit)) (now (validators .exit)) (now (deposits .exit))
+        (now (partials .exit)) (now (consolidations .exit)))
+        (operations-at (now (file .entry)) n) (now (results .entry)) (now (results .exit)) r n
+        ⌝ }
+{
+    let mut after = scalars;
+    let mut k: usize = 2;
+    let mut i: usize = 0;
+    while i < n {
+        after = lines::carry_out_line(
+            settings,
+            after,
+            identities,
+            validators,
+            deposits,
+            partials,
+            consolidations,
+            file,
+            k,
+            results,
+            i,
+        );
+        k = calls_reader::next_call(file, k);
+        i += 1;
+    }
+    after
+}
+
+// Carries out the calls of a file one after another, on lent books. The results take three numbers of each call: its
+// code, its answer, and the sum that the books hold after it.
+pub fn carry_out(
+    settings: Settings,
+    scalars: Scalars,
+    identities: &mut [u8],
+    validators: &mut [u64],
+    deposits: &mut [u64],
+    partials: &mut [u64],
+    consolidations: &mut [u64],
+    file: &[u8],
+    results: &mut [u64],
+) -> Carried
+    ensures { λ r. ⌜
+        CarriedOut (settings-of settings) scalars
+        (tables (now (identities .entry)) (now (validators .entry)) (now (deposits .entry))
+        (now (partials .entry)) (now (consolidations .entry)))
+        (tables (now (identities .exit)) (now (validators .exit)) (now (deposits .exit))
+        (now (partials .exit)) (now (consolidations .exit)))
+        (now (file .entry)) (now (results .entry)) (now (results .exit)) (r .number) (r .scalars) (r .count)
+        ⌝ }
+{
+    let handed = acceptance::handed(
+        settings,
+        scalars,
+        identities,
+        validators,
+        deposits,
+        partials,
+        consolidations,
+    );
+    if handed != answers::DONE {
+        return Carried {
+            number: handed,
+            scalars,
+            count: 0,
+        };
+    }
+    if !calls_reader::calls_file_ok(file) {
+        return Carried {
+            number: answers::BROKEN_FILE,
+            scalars,
+            count: 0,
+        };
+    }
+    let count = calls_reader::calls_count(file);
+    if results.len() / 3 < count {
+        return Carried {
+            number: answers::WRITER_BUFFER_SHORT,
+            scalars,
+            count: 0,
+        };
+    }
+    let after = carry_out_calls(
+        settings,
+        scalars,
+        identities,
+        validators,
+        deposits,
+        partials,
+        consolidations,
+        file,
+        count,
+        results,
+    );
+    Carried {
+        number: answers::DONE,
+        scalars: after,
+        count,
+    }
+}

@@ -1,0 +1,68 @@
+// A call with its line in the results: its code, its answer, and the sum that the books hold after it.
+use primitives::Gwei;
+use primitives::Scalars;
+use primitives::Settings;
+ghost use mathlib.Core.Path.{_≡_};
+ghost use Prim.Native.Nat.{_+_, _*_, _≤_};
+ghost use lib.ListN.{length};
+ghost use Rattle.primitives.specs.Settings.{settings-of};
+ghost use Rattle.records.specs.Books.{tables};
+ghost use Rattle.runs.specs.Lines.{with-line};
+ghost use Rattle.runs.specs.Ready.{Accepted, CallAt, operation-at, Written};
+
+// The numbers of line i.
+fn put_line(results: &mut [u64], i: usize, code: u64, answer: u64, total: Gwei)
+    requires { ⌜ 3 * i + 3 ≤ length (now results) ⌝ }
+    ensures { λ r. ⌜ now (results .exit) ≡ with-line (now (results .entry)) i code answer (total .0) ⌝ }
+{
+    results[3 * i] = code;
+    results[3 * i + 1] = answer;
+    results[3 * i + 2] = total.0;
+}
+
+// The call at word k, with line i.
+pub fn carry_out_line(
+    settings: Settings,
+    scalars: Scalars,
+    identities: &mut [u8],
+    validators: &mut [u64],
+    deposits: &mut [u64],
+    partials: &mut [u64],
+    consolidations: &mut [u64],
+    file: &[u8],
+    k: usize,
+    results: &mut [u64],
+    i: usize,
+) -> Scalars
+    requires { ⌜
+        Accepted (settings-of settings) scalars
+        (tables (now identities) (now validators) (now deposits) (now partials) (now consolidations))
+        ⌝ }
+    requires { ⌜ CallAt (now file) k ⌝ }
+    requires { ⌜ 3 * i + 3 ≤ length (now results) ⌝ }
+    ensures { λ r. ⌜
+        Written (settings-of settings) (operation-at (now (file .entry)) k) scalars
+        (tables (now (identities .entry)) (now (validators .entry)) (now (deposits .entry))
+        (now (partials .entry)) (now (consolidations .entry)))
+        (tables (now (identities .exit)) (now (validators .exit)) (now (deposits .exit))
+        (now (partials .exit)) (now (consolidations .exit)))
+        (now (results .entry)) (now (results .exit)) i r
+        ⌝ }
+{
+    let code = calls_reader::code_at(file, k);
+    let outcome = crate::calls::carry_out_call(
+        settings,
+        scalars,
+        identities,
+        validators,
+        deposits,
+        partials,
+        consolidations,
+        file,
+        k,
+    );
+    let after = outcome.scalars;
+    let total = acceptance::held(after, validators, deposits);
+    put_line(results, i, code as u64, outcome.number as u64, total);
+    after
+}
