@@ -1,5 +1,6 @@
 pub mod Tests
 pub mod Laws
+pub mod Sound
 pub mod Books
 pub mod Handed
 pub mod Held

@@ -92,7 +92,7 @@ pub fn enough_room(
 }
 
 // What is tested of the scalars and the counts alone.
-fn scalars_within(settings: Settings, scalars: Scalars) -> bool
+pub fn scalars_within(settings: Settings, scalars: Scalars) -> bool
     ensures { λ r. ⌜ r ≡ scalars-within (settings-of settings) scalars ⌝ }
 {
     (0 < scalars.validators)

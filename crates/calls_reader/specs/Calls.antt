@@ -1,10 +1,10 @@
 -- What a program that carries out the calls of a file goes by: it takes one call after another, as many as the count
 -- says, and each begins where the last one ended. ws are the words of the file; n calls are left from word k on.
 use mathlib.Core.Path.{_≡_, refl, sym, ap, _∙_}
-use mathlib.Core.Bool.{Bool, true, _&&_}
+use mathlib.Core.Bool.{true, _&&_}
 use mathlib.Core.List.{List, [], _∷_}
 use mathlib.Core.Option.{some}
-use Prim.Native.Nat.{ℕ, zero, suc, _+_, _-_, _%_, _≤_, _<_}
+use Prim.Native.Nat.{ℕ, suc, _+_, _-_, _%_, _≤_, _<_}
 use native.Mathlib.Omega.{arith}
 use lib.ListN.{length, getD, drop, length-drop}
 use lib.Seq.{drop-drop}
@@ -12,12 +12,13 @@ use lib.Dec.{eqb}
 use Rattle.lists.specs.Laws.{both, if-true}
 use Rattle.rules.specs.Calls.{Operation}
 use Rattle.file_format.specs.Words.{word, calls-head, payload, is-word, words}
-use Rattle.file_format.specs.Fields.{Format, many}
+use Rattle.file_format.specs.Fields.{many}
 use Rattle.file_format.specs.File.{ends, file-ok, read-file, read-calls}
 use Rattle.file_format.specs.Places.{count-at}
 use Rattle.file_format.specs.Calls.{call, calls-limit, calls-format}
 use Rattle.file_format.specs.FieldsLaws.{word-only, first-word}
 use Rattle.file_format.specs.AccessLaws.{getD-at}
+use Rattle.calls_reader.specs.Widths.{longest, next-place, next-rest, next-within, next-near}
 
 -- ---- the file by places: the head at word 0, the count at 1, the calls from 2 on
 
@@ -108,6 +109,14 @@ module _ (ws : List ℕ) (n k : ℕ) where
     pub others-behind : many call (suc n) .rest (drop k ws) ≡ many call n .rest (drop next ws)
     unfolding many
     others-behind = ap (many call n .rest) (sym h)
+
+-- no call is longer than 258 words
+pub near : (ws : List ℕ) (k next : ℕ) → call .ok (drop k ws) ≡ true → drop next ws ≡ call .rest (drop k ws)
+    → next ≤ length ws → next ≤ k + longest
+near ws k next g e l =
+    let m = next-place ws k in
+    let same = ap length (e ∙ sym (next-rest ws k g)) in
+    omega (arith, same, length-drop next ws, length-drop m ws, next-within ws k g, next-near ws k g)
 
 -- the same for a loop that counts up: call i of c stands at word k
 module _ (ws : List ℕ) (c i k : ℕ) (l : i < c) where

@@ -1,7 +1,7 @@
 -- The facts that the functions are proved by which hand out what a call holds.
 use mathlib.Core.Path.{_≡_, refl, sym, ap, _∙_}
-use mathlib.Core.Bool.{Bool, true, _&&_}
-use mathlib.Core.List.{List, [], _∷_, _++_, map}
+use mathlib.Core.Bool.{Bool, true}
+use mathlib.Core.List.{List, [], _∷_, map}
 use Prim.Native.Nat.{ℕ, zero, suc, _+_, _*_, _≤_, _<_}
 use native.Mathlib.Nat.{le-of-suc-le-suc, not-suc-le-zero}
 use native.Mathlib.Numerals.{add-one}
@@ -12,7 +12,7 @@ use lib.Dec.{eqb}
 use Rattle.lists.specs.Laws.{both}
 use Rattle.tables.specs.Rows.{rows, rows-snoc, length-rows}
 use Rattle.rules.specs.Types as rule
-use Rattle.rules.specs.Calls.{Operation, reward, penalty, deposit-receipt, voluntary-exit, withdrawal-request}
+use Rattle.rules.specs.Calls.{reward, penalty, deposit-receipt, voluntary-exit, withdrawal-request}
 use Rattle.rules.specs.Calls.{consolidation, withdrawals}
 use Rattle.expected_withdrawals.specs.Expected.{plain-withdrawal, coded-withdrawal, padded, sixteen, no-withdrawals}
 use Rattle.expected_withdrawals.specs.Expected.{handed-list}
@@ -26,24 +26,22 @@ use Rattle.file_format.specs.Places.{number-at, count-at}
 use Rattle.file_format.specs.Calls.{signature, amount-fields, receipt-fields, exit-fields, request-fields}
 use Rattle.file_format.specs.Calls.{consolidation-fields, withdrawal, withdrawal-of, withdrawals-fields}
 use Rattle.file_format.specs.Calls.{receipt-of, exit-of, request-of, consolidation-of, call-format, call}
-use Rattle.file_format.specs.AccessLaws.{Fixed, fixed-at, fixed-number, fixed-key, fixed-credentials, fixed-address}
+use Rattle.file_format.specs.AccessLaws.{Fixed, fixed-number, fixed-key, fixed-credentials, fixed-address}
 use Rattle.file_format.specs.AccessLaws.{getD-at, many-good, list-value}
-use Rattle.calls_reader.specs.Widths.{code-at, call-value-at, fields-good, fixed-withdrawal, withdrawals-most}
+use Rattle.calls_reader.specs.Widths.{behind, fixed-withdrawal, withdrawals-most, code-at, call-value-at}
+use Rattle.calls_reader.specs.Widths.{fields-good}
 
 -- ---- one field after another: F of n words at word k, then G at word m
 
 module _ {A B : Type 0} {F : Format A} {n : ℕ} (f : Fixed F n) (G : Format B) (ws : List ℕ) (k m : ℕ) (h : k + n ≡ m)
   where
-    behind : F .rest (drop k ws) ≡ drop m ws
-    behind = fixed-at f k ws ∙ ap (λ p. drop p ws) h
-
     then-good : (F ⊗ G) .ok (drop k ws) ≡ true → (F .ok (drop k ws) ≡ true) × (G .ok (drop m ws) ≡ true)
     then-good e =
         let s = both (F .ok (drop k ws)) (G .ok (F .rest (drop k ws))) e in
-        (s .0, ap (G .ok) (sym behind) ∙ s .1)
+        (s .0, ap (G .ok) (sym (behind f ws k m h)) ∙ s .1)
 
     then-value : (F ⊗ G) .value (drop k ws) ≡ (F .value (drop k ws), G .value (drop m ws))
-    then-value = λ j. (F .value (drop k ws), G .value (behind j))
+    then-value = λ j. (F .value (drop k ws), G .value (behind f ws k m h j))
 
 -- ---- the fields of the call at word k, whose code is c
 
@@ -67,7 +65,7 @@ module _ (ws : List ℕ) (k : ℕ) where
         go (suc (suc zero)) h l m = good-known e 2 h
         go (suc (suc (suc c))) h l m = let z : ⊥ = omega arith in absurd z
 
-    abbrev amount-parts : (number .ok (drop (k + 1) ws) ≡ true) × (number .ok (drop (k + 4) ws) ≡ true)
+    amount-parts : (number .ok (drop (k + 1) ws) ≡ true) × (number .ok (drop (k + 4) ws) ≡ true)
     amount-parts = then-good fixed-number number ws (k + 1) (k + 4) (omega arith) amount-good
 
     pub amount-validator-ok : number .ok (drop (k + 1) ws) ≡ true
@@ -94,13 +92,14 @@ module _ (ws : List ℕ) (k : ℕ) where
     abbrev receipt-numbers : Format (ℕ × (ℕ × Bool))
     receipt-numbers = number ⊗ number ⊗ signature
 
-    abbrev receipt-1 : (field 48 .ok (drop (k + 1) ws) ≡ true) × ((field 32 ⊗ receipt-numbers) .ok (drop (k + 17) ws) ≡ true)
+    receipt-1 : (field 48 .ok (drop (k + 1) ws) ≡ true)
+        × ((field 32 ⊗ receipt-numbers) .ok (drop (k + 17) ws) ≡ true)
     receipt-1 = then-good fixed-key (field 32 ⊗ receipt-numbers) ws (k + 1) (k + 17) (omega arith) (good-known e 3 h)
 
-    abbrev receipt-2 : (field 32 .ok (drop (k + 17) ws) ≡ true) × (receipt-numbers .ok (drop (k + 28) ws) ≡ true)
+    receipt-2 : (field 32 .ok (drop (k + 17) ws) ≡ true) × (receipt-numbers .ok (drop (k + 28) ws) ≡ true)
     receipt-2 = then-good fixed-credentials receipt-numbers ws (k + 17) (k + 28) (omega arith) (receipt-1 .1)
 
-    abbrev receipt-3 : (number .ok (drop (k + 28) ws) ≡ true) × ((number ⊗ signature) .ok (drop (k + 31) ws) ≡ true)
+    receipt-3 : (number .ok (drop (k + 28) ws) ≡ true) × ((number ⊗ signature) .ok (drop (k + 31) ws) ≡ true)
     receipt-3 = then-good fixed-number (number ⊗ signature) ws (k + 28) (k + 31) (omega arith) (receipt-2 .1)
 
     pub receipt-key-ok : field 48 .ok (drop (k + 1) ws) ≡ true
@@ -124,10 +123,10 @@ module _ (ws : List ℕ) (k : ℕ) where
         ),
       )
   receipt-value =
-      let b₁ = behind fixed-key number ws (k + 1) (k + 17) (omega arith) in
-      let b₂ = ap (field 32 .rest) b₁ ∙ behind fixed-credentials number ws (k + 17) (k + 28) (omega arith) in
-      let b₃ = ap (number .rest) b₂ ∙ behind fixed-number number ws (k + 28) (k + 31) (omega arith) in
-      let b₄ = ap (number .rest) b₃ ∙ behind fixed-number number ws (k + 31) (k + 34) (omega arith) in
+      let b₁ = behind fixed-key ws (k + 1) (k + 17) (omega arith) in
+      let b₂ = ap (field 32 .rest) b₁ ∙ behind fixed-credentials ws (k + 17) (k + 28) (omega arith) in
+      let b₃ = ap (number .rest) b₂ ∙ behind fixed-number ws (k + 28) (k + 31) (omega arith) in
+      let b₄ = ap (number .rest) b₃ ∙ behind fixed-number ws (k + 31) (k + 34) (omega arith) in
       λ j. (
         field 48 .value (drop (k + 1) ws),
         (
@@ -147,7 +146,7 @@ module _ (ws : List ℕ) (k : ℕ) where
   -- ---- code 4: validator at word k + 1, epoch at k + 4, flag at k + 7
 
   module _ (e : call .ok (drop k ws) ≡ true) (h : code-at ws k ≡ 4) where
-    abbrev exit-1 : (number .ok (drop (k + 1) ws) ≡ true) × ((number ⊗ signature) .ok (drop (k + 4) ws) ≡ true)
+    exit-1 : (number .ok (drop (k + 1) ws) ≡ true) × ((number ⊗ signature) .ok (drop (k + 4) ws) ≡ true)
     exit-1 = then-good fixed-number (number ⊗ signature) ws (k + 1) (k + 4) (omega arith) (good-known e 4 h)
 
     pub exit-validator-ok : number .ok (drop (k + 1) ws) ≡ true
@@ -159,8 +158,8 @@ module _ (ws : List ℕ) (k : ℕ) where
   exit-value : exit-fields .value (drop (k + 1) ws)
       ≡ (number-at ws (k + 1), (number-at ws (k + 4), eqb (flag .value (drop (k + 7) ws)) 1))
   exit-value =
-      let b₁ = behind fixed-number number ws (k + 1) (k + 4) (omega arith) in
-      let b₂ = ap (number .rest) b₁ ∙ behind fixed-number number ws (k + 4) (k + 7) (omega arith) in
+      let b₁ = behind fixed-number ws (k + 1) (k + 4) (omega arith) in
+      let b₂ = ap (number .rest) b₁ ∙ behind fixed-number ws (k + 4) (k + 7) (omega arith) in
       λ j. (number-at ws (k + 1), (number .value (b₁ j), eqb (flag .value (b₂ j)) 1))
 
   pub exit-read : {i a f : ℕ} → code-at ws k ≡ 4 → i ≡ number-at ws (k + 1) → a ≡ number-at ws (k + 4)
@@ -171,10 +170,10 @@ module _ (ws : List ℕ) (k : ℕ) where
   -- ---- code 5: address at word k + 1, key at k + 8, amount at k + 24
 
   module _ (e : call .ok (drop k ws) ≡ true) (h : code-at ws k ≡ 5) where
-    abbrev request-1 : (field 20 .ok (drop (k + 1) ws) ≡ true) × ((field 48 ⊗ number) .ok (drop (k + 8) ws) ≡ true)
+    request-1 : (field 20 .ok (drop (k + 1) ws) ≡ true) × ((field 48 ⊗ number) .ok (drop (k + 8) ws) ≡ true)
     request-1 = then-good fixed-address (field 48 ⊗ number) ws (k + 1) (k + 8) (omega arith) (good-known e 5 h)
 
-    abbrev request-2 : (field 48 .ok (drop (k + 8) ws) ≡ true) × (number .ok (drop (k + 24) ws) ≡ true)
+    request-2 : (field 48 .ok (drop (k + 8) ws) ≡ true) × (number .ok (drop (k + 24) ws) ≡ true)
     request-2 = then-good fixed-key number ws (k + 8) (k + 24) (omega arith) (request-1 .1)
 
     pub request-address-ok : field 20 .ok (drop (k + 1) ws) ≡ true
@@ -189,8 +188,8 @@ module _ (ws : List ℕ) (k : ℕ) where
   request-value : request-fields .value (drop (k + 1) ws)
       ≡ (field 20 .value (drop (k + 1) ws), (field 48 .value (drop (k + 8) ws), number-at ws (k + 24)))
   request-value =
-      let b₁ = behind fixed-address number ws (k + 1) (k + 8) (omega arith) in
-      let b₂ = ap (field 48 .rest) b₁ ∙ behind fixed-key number ws (k + 8) (k + 24) (omega arith) in
+      let b₁ = behind fixed-address ws (k + 1) (k + 8) (omega arith) in
+      let b₂ = ap (field 48 .rest) b₁ ∙ behind fixed-key ws (k + 8) (k + 24) (omega arith) in
       λ j. (field 20 .value (drop (k + 1) ws), (field 48 .value (b₁ j), number .value (b₂ j)))
 
   pub request-read : {address key : List ℕ} {a : ℕ} → code-at ws k ≡ 5
@@ -202,12 +201,12 @@ module _ (ws : List ℕ) (k : ℕ) where
   -- ---- code 6: source at word k + 1, target at k + 4, epoch at k + 7, flag at k + 10
 
   module _ (e : call .ok (drop k ws) ≡ true) (h : code-at ws k ≡ 6) where
-    abbrev consolidation-1 : (number .ok (drop (k + 1) ws) ≡ true)
+    consolidation-1 : (number .ok (drop (k + 1) ws) ≡ true)
         × ((number ⊗ number ⊗ signature) .ok (drop (k + 4) ws) ≡ true)
     consolidation-1 =
         then-good fixed-number (number ⊗ number ⊗ signature) ws (k + 1) (k + 4) (omega arith) (good-known e 6 h)
 
-    abbrev consolidation-2 : (number .ok (drop (k + 4) ws) ≡ true) × ((number ⊗ signature) .ok (drop (k + 7) ws) ≡ true)
+    consolidation-2 : (number .ok (drop (k + 4) ws) ≡ true) × ((number ⊗ signature) .ok (drop (k + 7) ws) ≡ true)
     consolidation-2 =
         then-good fixed-number (number ⊗ signature) ws (k + 4) (k + 7) (omega arith) (consolidation-1 .1)
 
@@ -227,9 +226,9 @@ module _ (ws : List ℕ) (k : ℕ) where
         (number-at ws (k + 4), (number-at ws (k + 7), eqb (flag .value (drop (k + 10) ws)) 1)),
       )
   consolidation-value =
-      let b₁ = behind fixed-number number ws (k + 1) (k + 4) (omega arith) in
-      let b₂ = ap (number .rest) b₁ ∙ behind fixed-number number ws (k + 4) (k + 7) (omega arith) in
-      let b₃ = ap (number .rest) b₂ ∙ behind fixed-number number ws (k + 7) (k + 10) (omega arith) in
+      let b₁ = behind fixed-number ws (k + 1) (k + 4) (omega arith) in
+      let b₂ = ap (number .rest) b₁ ∙ behind fixed-number ws (k + 4) (k + 7) (omega arith) in
+      let b₃ = ap (number .rest) b₂ ∙ behind fixed-number ws (k + 7) (k + 10) (omega arith) in
       λ j. (number-at ws (k + 1), (number .value (b₁ j), (number .value (b₂ j), eqb (flag .value (b₃ j)) 1)))
 
   pub consolidation-read : {s t a f : ℕ} → code-at ws k ≡ 6 → s ≡ number-at ws (k + 1) → t ≡ number-at ws (k + 4)
@@ -271,9 +270,9 @@ module _ (ws : List ℕ) (k : ℕ) where
       ≡ coded-withdrawal (withdrawal .value (drop k ws))
   unfolding withdrawal
   withdrawal-read p q r s =
-      let b₁ = behind fixed-number number ws k (k + 3) refl in
-      let b₂ = ap (number .rest) b₁ ∙ behind fixed-number number ws (k + 3) (k + 6) (omega arith) in
-      let b₃ = ap (field 20 .rest) b₂ ∙ behind fixed-address number ws (k + 6) (k + 13) (omega arith) in
+      let b₁ = behind fixed-number ws k (k + 3) refl in
+      let b₂ = ap (number .rest) b₁ ∙ behind fixed-number ws (k + 3) (k + 6) (omega arith) in
+      let b₃ = ap (field 20 .rest) b₂ ∙ behind fixed-address ws (k + 6) (k + 13) (omega arith) in
       (λ j. coded-withdrawal (record { index = p j; validator-index = q j; address = r j; amount = s j }))
       ∙ sym
       (λ j. coded-withdrawal (withdrawal-of
@@ -303,9 +302,11 @@ module _ (ws : List ℕ) (k n : ℕ) (e : call .ok (drop k ws) ≡ true) (h : co
         let p : k + 1 + 1 + i * 16 ≡ k + 2 + i * 16 = omega arith in
         let x = getD-at (k + 1) ws in
         let d = drop-drop 1 (k + 1) ws in
-        let all : many withdrawal (count-at ws (k + 1)) .ok (drop (k + 1 + 1) ws) ≡ true =
-        sym (λ j. many withdrawal (payload (x j)) .ok (d j)) ∙ both (is-word 2 17 (getD (drop (k + 1) ws) 0 0)) _ withdrawals-good .1 in
-        let one = many-good withdrawal 16 fixed-withdrawal (count-at ws (k + 1)) i (drop (k + 1 + 1) ws) (omega arith) all in
+        let m = count-at ws (k + 1) in
+        let us = drop (k + 1 + 1) ws in
+        let listed = both (is-word 2 17 (getD (drop (k + 1) ws) 0 0)) _ withdrawals-good .1 in
+        let all : many withdrawal m .ok us ≡ true = sym (λ j. many withdrawal (payload (x j)) .ok (d j)) ∙ listed in
+        let one = many-good withdrawal 16 fixed-withdrawal m i us (omega arith) all in
         ap (withdrawal .ok) (sym (drop-drop (i * 16) (k + 1 + 1) ws ∙ ap (λ q. drop q ws) p)) ∙ one
 
     pub withdrawals-value : withdrawals (rows n (withdrawal-there ws k)) ≡ call .value (drop k ws)

@@ -5,11 +5,11 @@ use mathlib.Core.List.{List}
 use Prim.Native.Nat.{ℕ, zero, suc, _+_, _-_, _*_, _%_, _^_, _≤_, _<_}
 use native.Mathlib.Nat.{sub-zero}
 use native.Mathlib.Omega.{arith}
-use lib.ListN.{length, getD, drop, length-drop}
+use lib.ListN.{length, getD, drop}
 use lib.Seq.{drop-drop}
 use lib.Dec.{eqb}
 use borrow.Author.Tests.{not-true, not-false}
-use Rattle.lists.specs.Laws.{both, and-true, and-false}
+use Rattle.lists.specs.Laws.{and-true}
 use Rattle.file_format.specs.Words.{words, payload, is-word}
 use Rattle.file_format.specs.Fields.{Format, _⊗_, number, flag, field, many}
 use Rattle.file_format.specs.File.{ends, file-ok}
@@ -19,16 +19,16 @@ use Rattle.file_format.specs.Calls.{consolidation-fields, withdrawal, withdrawa
 use Rattle.file_format.specs.Calls.{calls-format}
 use Rattle.file_format.specs.AccessLaws.{Fixed, fixed-at, fixed-number, fixed-key, fixed-credentials, fixed-address}
 use Rattle.file_format.specs.AccessLaws.{getD-at, and-assoc}
-use Rattle.calls_reader.specs.Widths.{fields-width, longest, code-at, next-place, call-ok-at}
+use Rattle.calls_reader.specs.Widths.{behind, fields-width, code-at, next-place, call-ok-at}
 use Rattle.calls_reader.specs.Widths.{next-rest, next-within, next-near}
-use Rattle.calls_reader.specs.Calls.{calls-ok-at, calls-rest-at, others-behind}
+use Rattle.calls_reader.specs.Calls.{calls-ok-at, calls-rest-at}
 
 -- ---- one field after another: F of n words at word k, then G at word m
 
 pub then-ok : {A B : Type 0} {F : Format A} {n : ℕ} → Fixed F n → (G : Format B) (ws : List ℕ) (k m : ℕ) → k + n ≡ m
     → (F ⊗ G) .ok (drop k ws) ≡ F .ok (drop k ws) && G .ok (drop m ws)
 then-ok {F} f G ws k m h =
-    ap (λ us. F .ok (drop k ws) && G .ok us) (fixed-at f k ws ∙ ap (λ p. drop p ws) h)
+    ap (λ us. F .ok (drop k ws) && G .ok us) (behind f ws k m h)
 
 module _ (ws : List ℕ) (k : ℕ) where
   two-numbers : many number 2 .ok (drop k ws) ≡ number .ok (drop k ws) && number .ok (drop (k + 3) ws)
@@ -261,14 +261,6 @@ module _ (ws : List ℕ) (k c n : ℕ) (e : c ≡ code-at ws k) (h : n ≡ field
 pub call-there : (ws : List ℕ) (k : ℕ) (r : Bool) → r ≡ call .ok (drop k ws) → not r ≡ false
     → call .ok (drop k ws) ≡ true
 call-there ws k r e h = sym e ∙ not-false r h
-
--- the word behind a call is fixed by what stands there
-pub near : (ws : List ℕ) (k next : ℕ) → call .ok (drop k ws) ≡ true → drop next ws ≡ call .rest (drop k ws)
-    → next ≤ length ws → next ≤ k + longest
-near ws k next g e l =
-    let m = next-place ws k in
-    let same = ap length (e ∙ sym (next-rest ws k g)) in
-    omega (arith, same, length-drop next ws, length-drop m ws, next-within ws k g, next-near ws k g)
 
 -- ---- n calls from word k on, then the end word
 

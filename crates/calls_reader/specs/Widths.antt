@@ -1,25 +1,27 @@
 -- The fields of each call by places: how many words they take, and so where the next call begins.
 use mathlib.Core.Path.{_≡_, refl, sym, ap, _∙_}
-use mathlib.Core.Bool.{Bool, true, _&&_}
+use mathlib.Core.Bool.{true, _&&_}
 use mathlib.Core.List.{List, [], _∷_}
 use Prim.Native.Nat.{ℕ, zero, suc, _+_, _*_, _≤_, _<_}
 use native.Mathlib.Omega.{arith}
 use lib.ListN.{length, getD, drop, length-drop}
 use lib.Seq.{drop-drop}
-use lib.Dec.{ltb}
-use borrow.Author.Tests.{ltb-true}
 use Rattle.lists.specs.Laws.{both}
-use Rattle.rules.specs.Calls.{Operation}
 use Rattle.file_format.specs.Words.{payload, is-word}
 use Rattle.file_format.specs.Fields.{Format, many}
 use Rattle.file_format.specs.Places.{count-at}
 use Rattle.file_format.specs.Calls.{signature, amount-fields, receipt-fields, exit-fields, request-fields}
 use Rattle.file_format.specs.Calls.{consolidation-fields, withdrawal, withdrawals-fields, call-format, call}
 use Rattle.file_format.specs.FieldsLaws.{impossible, word-only, first-word}
-use Rattle.file_format.specs.AccessLaws.{Fixed, fixed-pair, fixed-number, fixed-flag, fixed-key, fixed-credentials}
-use Rattle.file_format.specs.AccessLaws.{fixed-address, fixed-many, getD-at}
+use Rattle.file_format.specs.AccessLaws.{Fixed, fixed-at, fixed-pair, fixed-number, fixed-flag, fixed-key}
+use Rattle.file_format.specs.AccessLaws.{fixed-credentials, fixed-address, fixed-many, getD-at}
 
 -- ---- fields that take as many words whatever they hold
+
+-- F of n words at word k: what follows stands at word m
+pub behind : {A : Type 0} {F : Format A} {n : ℕ} → Fixed F n → (ws : List ℕ) (k m : ℕ) → k + n ≡ m
+    → F .rest (drop k ws) ≡ drop m ws
+behind f ws k m h = fixed-at f k ws ∙ ap (λ p. drop p ws) h
 
 pub fixed-signature : Fixed signature 1
 fixed-signature = record { rest = fixed-flag .rest; long = fixed-flag .long }
@@ -95,7 +97,8 @@ module _ (us : List ℕ) (e : withdrawals-fields .ok us ≡ true) where
 pub fields-wide : (code : ℕ) (us : List ℕ) → call-format code .ok us ≡ true → Wide code us
 unfolding fields-width
 fields-wide zero us e = impossible e
-fields-wide (suc zero) us e = record { rest = fixed-amount .rest us; long = fixed-amount .long us e; small = omega arith }
+fields-wide (suc zero) us e =
+    record { rest = fixed-amount .rest us; long = fixed-amount .long us e; small = omega arith }
 fields-wide (suc (suc zero)) us e =
     record { rest = fixed-amount .rest us; long = fixed-amount .long us e; small = omega arith }
 fields-wide (suc (suc (suc zero))) us e =

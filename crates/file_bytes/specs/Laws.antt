@@ -1,5 +1,5 @@
 -- The facts that the reads of a field's bytes are proved by.
-use mathlib.Core.Path.{_≡_, refl, sym, ap, _∙_}
+use mathlib.Core.Path.{_≡_, sym, _∙_}
 use mathlib.Core.Bool.{true}
 use mathlib.Core.List.{List}
 use Prim.Native.Nat.{ℕ, _+_, _/_, _%_, _^_, _≤_, _<_}
@@ -41,7 +41,7 @@ module _ (ws : List ℕ) (k j w : ℕ) (e : w ≡ getD ws (k + j / 3) 0) where
       let h : j % 3 ≡ 2 = omega arith in
       rw (h, word-there)
 
--- ---- a loop that fills an array of n bytes: byte q of it is g q
+-- ---- a loop that fills an array of n numbers: number q of it is g q
 
 pub record Filled (out : List ℕ) (g : ℕ → ℕ) (n j : ℕ) : Type 0 where
   pub size : length out ≡ n
@@ -59,7 +59,7 @@ filled-more {out} {g} {n} {j} {x} h e f = record {
       (getD-set-same out j x 0 (omega (arith, f .size)) ∙ e);
 }
 
-filled-all : {out : List ℕ} {g : ℕ → ℕ} {n j : ℕ} → n ≤ j → Filled out g n j → out ≡ rows n g
+pub filled-all : {out : List ℕ} {g : ℕ → ℕ} {n j : ℕ} → n ≤ j → Filled out g n j → out ≡ rows n g
 filled-all {out} {g} {n} {j} h f =
     sym (rows-getD out n 0 (f .size)) ∙ rows-ext n (λ q. getD out q 0) g (λ q p. f .same q (omega arith))
 

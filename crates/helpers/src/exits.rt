@@ -1,5 +1,5 @@
-// The churn accounts of exits and consolidations, and the exit of a validator. An assignment is computed by value, so
-// that a caller can judge its epochs before the first store.
+// The churn accounts of exits and consolidations, and the exit of a validator. An account is made of its two scalars
+// and lent in `churn_account`; it is handed on by value, so that a caller can judge its epochs before the first store.
 use crate::assignment::Assignment;
 use primitives::Epoch;
 use primitives::FAR_FUTURE_EPOCH;
@@ -54,7 +54,11 @@ fn assign_account(
     ensures { λ r. ⌜ r .epoch .0 + 2 ^ 16 < FAR ⌝ }
 {
     let activation_exit = compute_activation_exit_epoch(settings, scalars);
-    crate::assignment::assign_epoch(left, earliest, activation_exit, churn, amount)
+    let account = churn_account::account_after(left, earliest, activation_exit, churn, amount);
+    Assignment {
+        left: Gwei(account.balance_to_consume.0),
+        epoch: Epoch(account.earliest_epoch.0),
+    }
 }
 
 // The exits' churn account after an exit of `amount`.

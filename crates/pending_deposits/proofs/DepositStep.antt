@@ -1,20 +1,24 @@
--- The deposit loop entry by entry, and the step from what its parts did.
+-- The crediting of deposits one by one, the deposit loop by what is credited, and the step from what its parts did.
 use mathlib.Core.Path.{_≡_, refl, sym, ap, _∙_}
 use mathlib.Core.Bool.{true}
-use mathlib.Core.List.{List, [], _∷_}
+use mathlib.Core.List.{List, [], _∷_, _++_}
 use Prim.Native.Nat.{ℕ, _+_, _-_, _<_, _≤_}
 use native.Mathlib.Omega.{arith}
-use lib.ListN.{length, drop}
-use borrow.Author.Tests.{ltb-true, lt-ltb, le-ltb}
+use lib.ListN.{length, drop, length-append}
+use lib.Seq.{take-append-seam}
+use borrow.Author.Tests.{ltb-true}
 use Rattle.lists.specs.Base.{if_then_else_, adjust, total, every, empty}
-use Rattle.lists.specs.Laws.{if-true, if-false, total-adjust}
+use Rattle.lists.specs.Laws.{total-adjust, total-append}
 use Rattle.tables.specs.Rows.{rows, length-rows, drop-rows-at, drop-rows-end}
 use Rattle.tables.specs.Totals.{total-at-most}
 use Rattle.tables.specs.Tests.{every-row}
 use Rattle.rules.specs.Types.{BOUND, Settings, Validator, PendingBalanceDeposit}
 use Rattle.rules.specs.Helpers.{no-validator, increased, get-activation-exit-churn-limit}
-use Rattle.rules.specs.EpochProcessing.{process-deposits, process-pending-balance-deposits}
+use Rattle.rules.specs.EpochProcessing.{process-pending-balance-deposits}
 use Rattle.rules.specs.Acceptance.{deposit-amounts, deposit-in}
+use Rattle.rules.specs.Counting.{affordable}
+use Rattle.rule_laws.specs.Deposits.{affordable-prefix, affordable-every, affordable-limit}
+use Rattle.rule_laws.specs.Deposits.{credit, process-deposits-form}
 use Rattle.primitives.specs.declared.Scalars.{Scalars}
 use Rattle.primitives.specs.Scalars.{with-deposit-balance-to-consume}
 use Rattle.records.specs.declared.queues.PendingBalanceDeposit as declared
@@ -23,7 +27,8 @@ use Rattle.records.specs.Plain.{plain-deposit}
 use Rattle.records.specs.Books.{Tables, tables, Stepped, books-of}
 use Rattle.records.specs.Stores.{ValidatorAdjusted}
 use Rattle.records.specs.Queues.{DepositsDrained}
-use Rattle.pending_deposits.specs.Deposits.{validator-balances, Processed}
+use Rattle.waiting_deposits.specs.Blocks.{Affordable, take-rows}
+use Rattle.pending_deposits.specs.Deposits.{validator-balances, Credited, Processed}
 
 abbrev amount-of : PendingBalanceDeposit → ℕ
 amount-of d = d .amount
@@ -31,113 +36,140 @@ amount-of d = d .amount
 abbrev balance-of : Validator → ℕ
 balance-of v = v .balance
 
--- ---- the loop
+-- ---- the crediting loop
 
--- i deposits of the first m are credited, of the amount `processed`
-pub record Processing (available n m : ℕ) (ds old new : List ℕ) (processed i : ℕ) : Type 0 where
+-- i deposits of the first c are credited
+pub record Crediting (n c : ℕ) (ds old new : List ℕ) (i : ℕ) : Type 0 where
   pub left : (ids : List ℕ)
-      → process-deposits available processed (drop i (rows m (deposit-at ds))) (rows n (validator-at ids new))
-      ≡ process-deposits available 0 (rows m (deposit-at ds)) (rows n (validator-at ids old))
-  pub reached : i ≤ m
-  pub within : processed ≤ available
+      → credit (drop i (rows c (deposit-at ds))) (rows n (validator-at ids new))
+      ≡ credit (rows c (deposit-at ds)) (rows n (validator-at ids old))
   pub past : validators-past n new ≡ validators-past n old
   pub size : length new ≡ length old
   pub sums : (ids : List ℕ)
-      → validator-balances (rows n (validator-at ids new)) + deposit-amounts (drop i (rows m (deposit-at ds))) ≤ BOUND
-  pub small : processed + deposit-amounts (drop i (rows m (deposit-at ds))) ≤ BOUND
+      → validator-balances (rows n (validator-at ids new)) + deposit-amounts (drop i (rows c (deposit-at ds))) ≤ BOUND
 
-pub processing-none : (available n m : ℕ) (ds vs : List ℕ)
+pub crediting-none : (n c : ℕ) (ds vs : List ℕ)
     → ((ids : List ℕ)
-    → validator-balances (rows n (validator-at ids vs)) + deposit-amounts (rows m (deposit-at ds)) ≤ BOUND)
-    → Processing available n m ds vs vs 0 0
-processing-none available n m ds vs h = record {
-  left = λ ids. refl;
-  reached = omega arith;
-  within = omega arith;
-  past = refl;
-  size = refl;
-  sums = h;
-  small = omega (arith, h []);
-}
+    → validator-balances (rows n (validator-at ids vs)) + deposit-amounts (rows c (deposit-at ds)) ≤ BOUND)
+    → Crediting n c ds vs vs 0
+crediting-none n c ds vs h = record { left = λ ids. refl; past = refl; size = refl; sums = h }
 
-module _ {available n m : ℕ} {ds old new : List ℕ} {processed i : ℕ}
-    (h : Processing available n m ds old new processed i) where
-  pub processing-end : m ≤ i → Processed available n m ds old new processed i
-  unfolding process-deposits
-  processing-end e = record {
-    loop = λ ids. sym (h .left ids) ∙ rw (drop-rows-end m (deposit-at ds) i e);
-    reached = h .reached;
-    within = h .within;
+module _ {n c : ℕ} {ds old new : List ℕ} {i : ℕ} (h : Crediting n c ds old new i) where
+  pub crediting-end : c ≤ i → Credited n c ds old new
+  crediting-end e = record {
+    validators = λ ids. rw (drop-rows-end c (deposit-at ds) i e) at (h .left ids);
     past = h .past;
   }
 
   -- at the deposit d that the code has read
-  module _ (more : i < m) (d : declared.PendingBalanceDeposit) (e : plain-deposit d ≡ deposit-at ds i) where
-    here : drop i (rows m (deposit-at ds)) ≡ plain-deposit d ∷ drop (i + 1) (rows m (deposit-at ds))
-    here = rw e (drop-rows-at m (deposit-at ds) i more)
+  module _ (more : i < c) (d : declared.PendingBalanceDeposit) (e : plain-deposit d ≡ deposit-at ds i)
+      (known : every (deposit-in n) (rows c (deposit-at ds)) ≡ true) where
+    here : drop i (rows c (deposit-at ds)) ≡ plain-deposit d ∷ drop (i + 1) (rows c (deposit-at ds))
+    here = rw e (drop-rows-at c (deposit-at ds) i more)
 
-    amounts : deposit-amounts (drop i (rows m (deposit-at ds)))
-        ≡ d .amount .0 + deposit-amounts (drop (i + 1) (rows m (deposit-at ds)))
+    amounts : deposit-amounts (drop i (rows c (deposit-at ds)))
+        ≡ d .amount .0 + deposit-amounts (drop (i + 1) (rows c (deposit-at ds)))
     amounts = ap (total amount-of) here
 
-    pub sum-small : processed + d .amount .0 ≤ BOUND
-    sum-small = omega (arith, amounts, h .small)
+    pub index-known : d .index .0 < n
+    index-known =
+        ltb-true (d .index .0) n
+        (ap (deposit-in n) e ∙ every-row (deposit-in n) c (deposit-at ds) known i more)
 
-    pub processing-stop : available < processed + d .amount .0 → Processed available n m ds old new processed i
-    unfolding process-deposits
-    processing-stop k = record {
-      loop = λ ids.
-          sym (h .left ids)
-          ∙ rw here (if-true _ _ _ (lt-ltb available (processed + d .amount .0) k));
-      reached = h .reached;
-      within = h .within;
-      past = h .past;
-    }
+    pub balance-small : balance-at new (d .index .0) + d .amount .0 ≤ BOUND
+    balance-small =
+        omega (
+          arith,
+          amounts,
+          h .sums [],
+          total-at-most balance-of n (validator-at [] new) (d .index .0) index-known,
+        )
 
-    module _ (known : every (deposit-in n) (rows m (deposit-at ds)) ≡ true) where
-      pub index-known : d .index .0 < n
-      index-known =
-          ltb-true (d .index .0) n
-          (ap (deposit-in n) e ∙ every-row (deposit-in n) m (deposit-at ds) known i more)
+    pub crediting-more : (next : List ℕ) → ValidatorAdjusted (d .index .0) (increased (d .amount .0)) new next
+        → length next ≡ length new → Crediting n c ds old next (i + 1)
+    crediting-more next a size =
+        let j = d .index .0 in
+        let grown : (ids : List ℕ) → validator-balances (rows n (validator-at ids next))
+        ≡ validator-balances (rows n (validator-at ids new)) + d .amount .0
+        = λ ids.
+        ap validator-balances (a .validators ids n)
+        ∙ balances-grown n (validator-at ids new) j (d .amount .0) index-known in
+        record {
+          left = λ ids.
+              rw (a .validators ids n)
+              (sym (ap (λ l. credit l (rows n (validator-at ids new))) here) ∙ h .left ids);
+          past = a .past n index-known ∙ h .past;
+          size = size ∙ h .size;
+          sums = λ ids. omega (arith, grown ids, amounts, h .sums ids);
+        }
+      where
+        balances-grown : (n : ℕ) (g : ℕ → Validator) (j x : ℕ) → j < n
+            → validator-balances (adjust j (increased x) (rows n g)) ≡ validator-balances (rows n g) + x
+        balances-grown n g j x p =
+            let q : j < length (rows n g) = rw (length-rows n g) p in
+            omega (arith, total-adjust balance-of j (increased x) (rows n g) no-validator q)
 
-      pub balance-small : balance-at new (d .index .0) + d .amount .0 ≤ BOUND
-      balance-small =
-          omega (
-            arith,
-            amounts,
-            h .sums [],
-            total-at-most balance-of n (validator-at [] new) (d .index .0) index-known,
-          )
+-- ---- the deposits that are credited, of the first m
 
-      pub processing-more : (next : List ℕ) → ValidatorAdjusted (d .index .0) (increased (d .amount .0)) new next
-          → length next ≡ length new → processed + d .amount .0 ≤ available
-          → Processing available n m ds old next (processed + d .amount .0) (i + 1)
-      unfolding process-deposits
-      processing-more next a size k =
-          let j = d .index .0 in
-          let credited = increased (d .amount .0) in
-          let grown : (ids : List ℕ) → validator-balances (rows n (validator-at ids next))
-          ≡ validator-balances (rows n (validator-at ids new)) + d .amount .0
-          = λ ids.
-          ap validator-balances (a .validators ids n)
-          ∙ balances-grown n (validator-at ids new) j (d .amount .0) index-known in
-          record {
-            left = λ ids.
-                rw (a .validators ids n)
-                (sym (rw here (if-false _ _ _ (le-ltb available (processed + d .amount .0) k))) ∙ h .left ids);
-            reached = omega arith;
-            within = k;
-            past = a .past n index-known ∙ h .past;
-            size = size ∙ h .size;
-            sums = λ ids. omega (arith, grown ids, amounts, h .sums ids);
-            small = omega (arith, amounts, h .small);
-          }
-        where
-          balances-grown : (n : ℕ) (g : ℕ → Validator) (j x : ℕ) → j < n
-              → validator-balances (adjust j (increased x) (rows n g)) ≡ validator-balances (rows n g) + x
-          balances-grown n g j x p =
-              let q : j < length (rows n g) = rw (length-rows n g) p in
-              omega (arith, total-adjust balance-of j (increased x) (rows n g) no-validator q)
+module _ (available m count left : ℕ) (ds : List ℕ)
+    (is : Affordable available (rows m (deposit-at ds)) count left) where
+  abbrev queue-of : List PendingBalanceDeposit
+  queue-of = rows m (deposit-at ds)
+
+  abbrev paid : List PendingBalanceDeposit
+  paid = affordable available 0 queue-of
+
+  whole : paid ++ drop (length paid) queue-of ≡ queue-of
+  whole = affordable-prefix available 0 queue-of
+
+  pub paid-reached : count ≤ m
+  paid-reached =
+      let sizes = ap length whole in
+      let apart = length-append paid (drop (length paid) queue-of) in
+      omega (arith, is .count, sizes, apart, length-rows m (deposit-at ds))
+
+  paid-first : paid ≡ rows count (deposit-at ds)
+  paid-first =
+      sym (take-append-seam paid (drop (length paid) queue-of))
+      ∙ rw (whole, ← is .count) (take-rows count m (deposit-at ds) paid-reached)
+
+  pub paid-known : (n : ℕ) → every (deposit-in n) queue-of ≡ true
+      → every (deposit-in n) (rows count (deposit-at ds)) ≡ true
+  paid-known n h = rw paid-first at (affordable-every (deposit-in n) available 0 queue-of h)
+
+  pub paid-small : (held : ℕ) → held + deposit-amounts queue-of ≤ BOUND
+      → held + deposit-amounts (rows count (deposit-at ds)) ≤ BOUND
+  paid-small held h =
+      let sums = ap deposit-amounts whole in
+      let apart = total-append amount-of paid (drop (length paid) queue-of) in
+      omega (arith, h, sums, apart, ap deposit-amounts paid-first)
+
+  paid-within : deposit-amounts paid ≤ available
+  paid-within = omega (arith, affordable-limit available 0 queue-of (omega arith))
+
+  pub left-within : left ≤ available
+  left-within = omega (arith, is .left)
+
+  pub processed : {n : ℕ} {old new : List ℕ} → Credited n count ds old new
+      → Processed available n m ds old new (available - left) count
+  processed {n} {old} {new} c = record {
+    loop = λ ids.
+        process-deposits-form available 0 queue-of (rows n (validator-at ids old))
+        ∙ λ i. record {
+          validators = credited ids i;
+          waiting = drop (sym (is .count) i) queue-of;
+          processed-amount = spent i;
+        };
+    reached = paid-reached;
+    within = omega arith;
+    past = c .past;
+  }
+    where
+      credited : (ids : List ℕ) → credit paid (rows n (validator-at ids old)) ≡ rows n (validator-at ids new)
+      credited ids = ap (λ l. credit l (rows n (validator-at ids old))) paid-first ∙ sym (c .validators ids)
+
+      spent : 0 + deposit-amounts paid ≡ available - left
+      spent = omega (arith, is .left, paid-within)
 
 -- ---- the step
 

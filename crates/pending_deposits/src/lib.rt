@@ -16,7 +16,7 @@ ghost use Rattle.rules.specs.Calls.{enough-room};
 ghost use Rattle.primitives.specs.Settings.{settings-of};
 ghost use Rattle.records.specs.Layout.{validator-at, deposit-at, validators-fit, deposits-fit};
 ghost use Rattle.records.specs.Books.{Stepped, books-of, room-of, tables};
-ghost use Rattle.pending_deposits.specs.Deposits.{validator-balances, Processed};
+ghost use Rattle.pending_deposits.specs.Deposits.{validator-balances, Credited, Processed};
 
 // What the deposit loop has processed: the amount, and the position of the first deposit not reached.
 pub struct ProcessedDeposits {
@@ -24,7 +24,30 @@ pub struct ProcessedDeposits {
     pub next: usize,
 }
 
-// The deposit loop, over the first n validators and the first m deposits.
+// Credits the first `count` deposits to the first n validators.
+fn credit_deposits(validators: &mut [u64], deposits: &[u64], n: usize, count: usize)
+    requires { ⌜ (n ≤ validators-fit (now validators)) × (count ≤ deposits-fit (now deposits)) ⌝ }
+    requires { ⌜ every (deposit-in n) (rows count (deposit-at (now deposits))) ≡ true ⌝ }
+    requires { ⌜
+        ((ids : List ℕ)
+        → validator-balances (rows n (validator-at ids (now validators)))
+        + deposit-amounts (rows count (deposit-at (now deposits)))
+        ≤ BOUND)
+        ⌝ }
+    ensures { λ r. ⌜
+        Credited n count (now (deposits .entry)) (now (validators .entry)) (now (validators .exit))
+        ⌝ }
+{
+    let mut i = 0;
+    while i < count {
+        let deposit = records::queues::deposit_at(deposits, i);
+        records::registry::increase_balance(validators, deposit.index, deposit.amount);
+        i += 1;
+    }
+}
+
+// The deposit loop, over the first n validators and the first m deposits: which deposits are credited is asked of
+// `waiting_deposits`, before the first store.
 fn process_deposits(
     validators: &mut [u64],
     deposits: &[u64],
@@ -45,23 +68,12 @@ fn process_deposits(
         (now (validators .entry)) (now (validators .exit)) (r .amount .0) (r .next)
         ⌝ }
 {
-    let mut processed: u64 = 0;
-    let mut i = 0;
-    while i < m {
-        let deposit = records::queues::deposit_at(deposits, i);
-        if available.0 < processed + deposit.amount.0 {
-            return ProcessedDeposits {
-                amount: Gwei(processed),
-                next: i,
-            };
-        }
-        records::registry::increase_balance(validators, deposit.index, deposit.amount);
-        processed = processed + deposit.amount.0;
-        i += 1;
-    }
+    let affordable = waiting_deposits::affordable_deposits(deposits, m, available);
+    let next = affordable.count;
+    credit_deposits(validators, deposits, n, next);
     ProcessedDeposits {
-        amount: Gwei(processed),
-        next: i,
+        amount: Gwei(available.0 - affordable.left.0),
+        next,
     }
 }
 

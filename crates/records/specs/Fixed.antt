@@ -183,18 +183,22 @@ tables-fixed r t u w z f g e = same-tables ids vs ds ps cs
         (ap (λ x. x .source-index) d, ap (λ x. x .target-index) d)))
         (f .consolidations ∙ sym (g .consolidations))
 
--- no two outcomes of one call
-pub called-fixed : {S : rule.Settings} {op : Operation} {s : Scalars} {t u w : Tables} {n m : ℕ} {r q : Scalars}
-    → SameSizes u w → Called S op s t u n r → Called S op s t w m q → (n ≡ m) × (r ≡ q) × (u ≡ w)
-called-fixed {S} {op} {s} {t} {u} {w} {n} {m} {r} {q} z a b = (a .number ∙ sym (b .number), same, words)
+-- books that agree, over the same words beyond them, stand in the same scalars and tables
+pub books-fixed : {t u w : Tables} {r q : Scalars}
+    → SameSizes u w → Beyond r u t → Beyond q w t → books-of r u ≡ books-of q w → (r ≡ q) × (u ≡ w)
+books-fixed {t} {u} {w} {r} {q} z f g e = (same, words)
   where
-    e : books-of r u ≡ books-of q w
-    e = a .books ∙ sym (b .books)
-
     same : r ≡ q
     same = sym (scalars-back r u) ∙ ap scalars-in e ∙ scalars-back q w
 
     words : u ≡ w
     words =
-        let g : Beyond r w t = rw (← same) at (b .beyond) in
-        tables-fixed r t u w z (a .beyond) g (e ∙ ap (λ x. books-of x w) (sym same))
+        let h : Beyond r w t = rw (← same) at g in
+        tables-fixed r t u w z f h (e ∙ ap (λ x. books-of x w) (sym same))
+
+-- no two outcomes of one call
+pub called-fixed : {S : rule.Settings} {op : Operation} {s : Scalars} {t u w : Tables} {n m : ℕ} {r q : Scalars}
+    → SameSizes u w → Called S op s t u n r → Called S op s t w m q → (n ≡ m) × (r ≡ q) × (u ≡ w)
+called-fixed z a b =
+    let same = books-fixed z (a .beyond) (b .beyond) (a .books ∙ sym (b .books)) in
+    (a .number ∙ sym (b .number), same .0, same .1)

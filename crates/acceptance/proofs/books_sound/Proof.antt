@@ -9,8 +9,9 @@ use Rattle.primitives.specs.Settings.{settings-of}
 use Rattle.records.specs.Books.{Tables, tables}
 use Rattle.records.specs.Reading.{EnoughRoom, room}
 use Rattle.acceptance.specs.Tests.{scalars-within}
-use Rattle.acceptance.specs.Books.{ScalarsWithin, within, scalars-refused, balances-refused, held-refused}
-use Rattle.acceptance.specs.Books.{partials-refused, consolidations-decide}
+use Rattle.acceptance.specs.Sound.{ScalarsWithin, within}
+use Rattle.acceptance.specs.Books.{scalars-refused, balances-refused, held-refused, partials-refused}
+use Rattle.acceptance.specs.Books.{consolidations-decide}
 use borrow.Author.Needs.{needs}
 use Rattle.acceptance.proofs.books_sound.Statement.{statement}
 use Rattle.acceptance.proofs.books_sound.Tie as tie

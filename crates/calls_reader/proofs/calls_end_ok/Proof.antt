@@ -3,7 +3,8 @@ use borrow.Author.Needs.{needs}
 use mathlib.Core.Path.{_≡_}
 use Prim.Native.Nat.{_≤_, _-_, _+_, _*_}
 use Rattle.file_format.specs.Words.{words}
-use Rattle.calls_reader.specs.Laws.{call-there, near, calls-end-ok, calls-end-start, calls-end-stopped}
+use Rattle.calls_reader.specs.Calls.{near}
+use Rattle.calls_reader.specs.Laws.{call-there, calls-end-ok, calls-end-start, calls-end-stopped}
 use Rattle.calls_reader.specs.Laws.{calls-end-more, calls-end-done}
 use Rattle.calls_reader.proofs.calls_end_ok.Statement.{statement}
 use Rattle.calls_reader.proofs.calls_end_ok.Tie as tie

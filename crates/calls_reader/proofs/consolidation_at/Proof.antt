@@ -1,6 +1,7 @@
 -- `calls_reader::consolidation_at` meets its contract.
 use borrow.Author.Needs.{needs}
-use Rattle.calls_reader.specs.Fields.{consolidation-source-ok, consolidation-target-ok, consolidation-epoch-ok, consolidation-read}
+use Rattle.calls_reader.specs.Fields.{consolidation-source-ok, consolidation-target-ok}
+use Rattle.calls_reader.specs.Fields.{consolidation-epoch-ok, consolidation-read}
 use Rattle.calls_reader.proofs.consolidation_at.Statement.{statement}
 use Rattle.calls_reader.proofs.consolidation_at.Tie as tie
 

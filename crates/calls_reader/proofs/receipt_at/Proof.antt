@@ -1,6 +1,7 @@
 -- `calls_reader::receipt_at` meets its contract.
 use borrow.Author.Needs.{needs}
-use Rattle.calls_reader.specs.Fields.{receipt-key-ok, receipt-credentials-ok, receipt-amount-ok, receipt-index-ok, receipt-read}
+use Rattle.calls_reader.specs.Fields.{receipt-key-ok, receipt-credentials-ok, receipt-amount-ok}
+use Rattle.calls_reader.specs.Fields.{receipt-index-ok, receipt-read}
 use Rattle.calls_reader.proofs.receipt_at.Statement.{statement}
 use Rattle.calls_reader.proofs.receipt_at.Tie as tie
 
@@ -20,13 +21,13 @@ add-number-at : tie.Need-add-number-at
 add-number-at c = search needs
 
 number-at-requires : tie.Need-number-at-requires
-number-at-requires c κs = search (receipt-amount-ok, needs)
+number-at-requires c κs = search (receipt-amount-ok, receipt-index-ok, needs)
 
 add-number-at-2 : tie.Need-add-number-at-2
 add-number-at-2 c = search needs
 
 number-at-requires-2 : tie.Need-number-at-requires-2
-number-at-requires-2 c κs = search (receipt-index-ok, needs)
+number-at-requires-2 c κs = search (receipt-amount-ok, receipt-index-ok, needs)
 
 add-flag-at : tie.Need-add-flag-at
 add-flag-at c = search needs

@@ -1,6 +1,7 @@
 -- `calls_reader::withdrawal_at` meets its contract.
 use borrow.Author.Needs.{needs}
-use Rattle.calls_reader.specs.Fields.{withdrawal-address-ok, withdrawal-index-ok, withdrawal-validator-ok, withdrawal-amount-ok, withdrawal-read}
+use Rattle.calls_reader.specs.Fields.{withdrawal-address-ok, withdrawal-index-ok, withdrawal-validator-ok}
+use Rattle.calls_reader.specs.Fields.{withdrawal-amount-ok, withdrawal-read}
 use Rattle.calls_reader.proofs.withdrawal_at.Statement.{statement}
 use Rattle.calls_reader.proofs.withdrawal_at.Tie as tie
 

@@ -27,19 +27,19 @@ near c =
     omega (arith, settings-sound _ (start .pre .0) .lookahead) in
     assigned-near _ _ _ _ _ (start .pre .1 .0 .1) h (start .pre .1 .1 .1)
 
-assign-epoch-requires : tie.Need-assign-epoch-requires
-assign-epoch-requires c κs = (c .before .pre .1 .1 .0, omega (arith, near c))
+account-after-requires : tie.Need-account-after-requires
+account-after-requires c κs = (c .before .pre .1 .1 .0, omega (arith, near c))
 
 returns : tie.Need-returns
 returns c = (
   λ t.
       let a = c .before .before .args in
-      c .assign-epoch .ensures
+      c .account-after .ensures
       ∙ ap (λ (e : ℕ). assign-epoch (a .left .0) (a .earliest .0) e (a .churn .0) (a .amount .0))
       (c .before .compute-activation-exit-epoch .ensures t),
-  omega (arith, near (c .before), ap (λ (x : Assignment). x .epoch) (c .assign-epoch .ensures)),
+  omega (arith, near (c .before), ap (λ (x : Assignment). x .epoch) (c .account-after .ensures)),
 )
 
 pub assign-account-spec : {M : Type 1} → statement M
 assign-account-spec =
-    tie.close (tie.spec compute-activation-exit-epoch-requires assign-epoch-requires returns)
+    tie.close (tie.spec compute-activation-exit-epoch-requires account-after-requires returns)

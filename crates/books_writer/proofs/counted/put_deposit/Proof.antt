@@ -1,0 +1,24 @@
+use borrow.Author.Needs.{needs}
+use Rattle.books_writer.specs.Lists.{deposit-put}
+use Rattle.books_writer.proofs.counted.put_deposit.Statement.{statement}
+use Rattle.books_writer.proofs.counted.put_deposit.Tie as tie
+
+put-number-requires : tie.Need-put-number-requires
+put-number-requires c κs = search needs
+
+add-put-number : tie.Need-add-put-number
+add-put-number c = search needs
+
+put-number-requires-2 : tie.Need-put-number-requires-2
+put-number-requires-2 c κs = search needs
+
+same-length : tie.Need-same-length
+same-length c = search needs
+
+returns : tie.Need-returns
+returns c = search (deposit-put, needs)
+
+pub put-deposit-spec : {M : Type 1} → statement M
+put-deposit-spec =
+    tie.close
+    (tie.spec put-number-requires add-put-number put-number-requires-2 same-length returns)

@@ -1,0 +1,86 @@
+use borrow.Author.Needs.{needs}
+use mathlib.Core.Path.{_≡_}
+use Prim.Native.Nat.{_+_, _-_, _≤_}
+use lib.ListN.{length}
+use Rattle.records.specs.Layout.{deposit-at}
+use Rattle.file_format.specs.Books.{deposit}
+use Rattle.file_format.specs.PutLaws.{put}
+use Rattle.books_writer.specs.Lists.{first-records, records-none, records-more, records-done, deposit-length}
+use Rattle.books_writer.proofs.counted.put_deposits.Statement.{statement}
+use Rattle.books_writer.proofs.counted.put_deposits.Tie as tie
+
+abbrev Inv-loop : tie.InvT-loop
+Inv-loop out₀ k deposits n i₀ out i =
+    (i ≤ n)
+    × (length out ≡ length out₀)
+    × (out ≡ put out₀ (k + 1) (first-records deposit (deposit-at deposits) i))
+
+abbrev μ-loop : tie.MeasureT-loop
+μ-loop out₀ k deposits n i₀ out i = n - i
+
+put-count-requires : tie.Need-put-count-requires Inv-loop μ-loop
+put-count-requires c κs = search needs
+
+loop-holds : tie.Need-loop-holds Inv-loop μ-loop
+loop-holds c = (search needs, search needs, records-none _ _ _ _)
+
+add-put-deposit : tie.Need-add-put-deposit Inv-loop μ-loop
+add-put-deposit c = search needs
+
+mul-put-deposit : tie.Need-mul-put-deposit Inv-loop μ-loop
+mul-put-deposit c = search needs
+
+add-put-deposit-2 : tie.Need-add-put-deposit-2 Inv-loop μ-loop
+add-put-deposit-2 c = search needs
+
+deposit-at-requires : tie.Need-deposit-at-requires Inv-loop μ-loop
+deposit-at-requires c κs = search needs
+
+put-deposit-requires : tie.Need-put-deposit-requires Inv-loop μ-loop
+put-deposit-requires c κs = search needs
+
+add-i : tie.Need-add-i Inv-loop μ-loop
+add-i c = search needs
+
+loop-less : tie.Need-loop-less Inv-loop μ-loop
+loop-less c = search needs
+
+loop-again : tie.Need-loop-again Inv-loop μ-loop
+loop-again c =
+    let stored = c .before .before in
+    let turn = stored .before .before .before .before in
+    let start = turn .before .before .before .before .before .before .before in
+    let more =
+    records-more deposit 6 (start .args .n) _ (λ i h. deposit-length _) _ _ _ _ _ _
+    (search needs) (search needs) (turn .loop .inv .2) (stored .before .deposit-at .ensures)
+    (stored .put-deposit .ensures) in
+    (search needs, search needs, more)
+
+same-length : tie.Need-same-length Inv-loop μ-loop
+same-length c = search needs
+
+returns : tie.Need-returns Inv-loop μ-loop
+returns c =
+    let counted = c .before .before .before .before in
+    let start = counted .before .before .before .before in
+    records-done deposit 6 (start .args .n) _ (λ i h. deposit-length _) _ _ _ _ _ (search needs)
+    (search needs) (search needs) (counted .put-count .ensures) (c .before .loop .inv .2)
+
+pub put-deposits-spec : {M : Type 1} → statement M
+put-deposits-spec =
+    tie.close
+    (tie.spec
+    Inv-loop
+    μ-loop
+    put-count-requires
+    loop-holds
+    add-put-deposit
+    mul-put-deposit
+    add-put-deposit-2
+    deposit-at-requires
+    put-deposit-requires
+    add-i
+    loop-less
+    loop-again
+    same-length
+    returns)

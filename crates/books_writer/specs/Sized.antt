@@ -1,0 +1,56 @@
+-- Keys of 48 bytes and credentials of 32, from a lent table of bytes.
+use mathlib.Core.Path.{_≡_, refl}
+use mathlib.Core.Bool.{Bool, true}
+use mathlib.Core.List.{List, [], _∷_}
+use Prim.Native.Nat.{ℕ, zero, suc, _+_, _*_, _≤_, _<_, _^_, suc-le-suc}
+use native.Mathlib.Omega.{arith}
+use lib.ListN.{length, getD, take, drop, length-take, length-drop}
+use borrow.Author.Tests.{eq-eqb, lt-ltb}
+use Rattle.lists.specs.Base.{every}
+use Rattle.lists.specs.Laws.{both, join, every-drop}
+use Rattle.tables.specs.Rows.{rows}
+use Rattle.primitives.specs.declared.Scalars.{Scalars}
+use Rattle.records.specs.Layout.{validator-at}
+use Rattle.records.specs.Books.{Tables, books-of}
+use Rattle.file_format.specs.Words.{is-byte}
+use Rattle.file_format.specs.Fields.{is-field}
+use Rattle.file_format.specs.Books.{bytes-sized, sized}
+use Rattle.books_writer.specs.Written.{Ready}
+
+every-take : {A : Type 0} (p : A → Bool) (n : ℕ) (xs : List A) → every p xs ≡ true → every p (take n xs) ≡ true
+every-take p zero xs e = refl
+every-take p (suc n) [] e = refl
+every-take p (suc n) (x ∷ xs) e =
+    let s = both (p x) (every p xs) e in
+    join (s .0) (every-take p n xs (s .1))
+
+-- what the type of a lent buffer of bytes says
+pub slice-bytes : (xs : List ℕ) → ((i : ℕ) → getD xs i 0 < 256) → every is-byte xs ≡ true
+slice-bytes [] h = refl
+slice-bytes (x ∷ xs) h = join (lt-ltb x 256 (h 0)) (slice-bytes xs (λ i. h (suc i)))
+
+every-rows : {A : Type 0} (p : A → Bool) (n : ℕ) (g : ℕ → A) → ((i : ℕ) → i < n → p (g i) ≡ true)
+    → every p (rows n g) ≡ true
+unfolding rows
+every-rows p zero g h = refl
+every-rows p (suc n) g h =
+    join (h 0 (omega arith)) (every-rows p n (λ k. g (suc k)) (λ i q. h (suc i) (suc-le-suc q)))
+
+-- a part of a table of bytes
+part-bytes : (n at : ℕ) (xs : List ℕ) → at + n ≤ length xs → every is-byte xs ≡ true
+    → is-field n (take n (drop at xs)) ≡ true
+part-bytes n at xs h e =
+    let l : length (take n (drop at xs)) ≡ n = omega (arith, length-take n (drop at xs), length-drop at xs) in
+    join (eq-eqb _ _ l) (every-take is-byte n (drop at xs) (every-drop is-byte at xs e))
+
+-- keys and credentials from a table of bytes, and a receipt start of 64 bits
+pub tables-sized : (s : Scalars) (t : Tables) → Ready s t → every is-byte (t .identities) ≡ true
+    → s .«deposit_receipts_start_index» < 2 ^ 64 → sized (books-of s t) ≡ true
+unfolding books-of
+tables-sized s t k e h =
+    let ids = t .identities in
+    let one : (i : ℕ) → i < s .validators → bytes-sized (validator-at ids (t .validators) i) ≡ true =
+    λ i p.
+    join (part-bytes 48 (80 * i) ids (omega (arith, k .identities)) e)
+    (part-bytes 32 (80 * i + 48) ids (omega (arith, k .identities)) e) in
+    join (every-rows bytes-sized (s .validators) (validator-at ids (t .validators)) one) (lt-ltb _ _ h)

@@ -1,0 +1,4 @@
+pub mod Scalars
+pub mod Laws
+pub mod Lists
+pub mod Books

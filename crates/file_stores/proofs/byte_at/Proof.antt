@@ -1,0 +1,16 @@
+use borrow.Author.Needs.{needs}
+use Rattle.file_stores.specs.Laws.{byte-none}
+use Rattle.file_stores.proofs.byte_at.Statement.{statement}
+use Rattle.file_stores.proofs.byte_at.Tie as tie
+
+shared-slice-read-result : tie.Need-shared-slice-read-result
+shared-slice-read-result c = search needs
+
+returns : tie.Need-returns
+returns c = search needs
+
+returns-2 : tie.Need-returns-2
+returns-2 c = search (byte-none, needs)
+
+pub byte-at-spec : {M : Type 1} → statement M
+byte-at-spec = tie.close (tie.spec shared-slice-read-result returns returns-2)

@@ -1,0 +1,2 @@
+pub mod Affords
+pub mod Blocks
