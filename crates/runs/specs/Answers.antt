@@ -18,8 +18,9 @@ use Rattle.file_format.specs.File.{file-ok, read-file, read-calls}
 use Rattle.file_format.specs.Places.{count-at}
 use Rattle.file_format.specs.Calls.{calls-format}
 use Rattle.calls_reader.specs.Calls.{good-calls, calls-read}
+use Rattle.file_calls.specs.Ready.{Accepted}
 use Rattle.runs.specs.Promise.{listed-answer, carry-out-answer, Done, CarriedOut}
-use Rattle.runs.specs.Ready.{Accepted, CallsAt, operations-at}
+use Rattle.runs.specs.Ready.{CallsAt, operations-at}
 use Rattle.runs.specs.Steps.{many-size}
 
 -- ---- a file that was judged

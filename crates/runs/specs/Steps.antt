@@ -1,16 +1,15 @@
--- The facts that the functions are proved by: the call at a word, and the loop over the calls.
-use mathlib.Core.Path.{_≡_, refl, sym, ap, _∙_, subst}
-use mathlib.Core.Bool.{Bool, true, false, not}
+-- The facts that the loop over the calls of a file is proved by.
+use mathlib.Core.Path.{_≡_, refl, sym, ap, _∙_}
+use mathlib.Core.Bool.{true}
 use mathlib.Core.List.{List, [], _∷_, _++_, append-assoc, append-nil}
-use mathlib.Core.Option.{some}
-use Prim.Native.Nat.{ℕ, zero, suc, _+_, _-_, _*_, _/_, _≤_, _<_}
+use Prim.Native.Nat.{ℕ, zero, suc, _+_, _-_, _*_, _≤_, _<_}
 use native.Mathlib.Nat.{sub-zero}
 use native.Mathlib.Omega.{arith}
 use lib.ListN.{length, take, drop, set, length-set, length-map, take-append-drop}
 use lib.Seq.{drop-drop, drop-set-lt, take-set-le, take-suc-set, length-take-le}
 use Rattle.rules.specs.Types as rule
 use Rattle.rules.specs.Acceptance.{held}
-use Rattle.rules.specs.Calls.{Operation, turn, answer, after}
+use Rattle.rules.specs.Calls.{Operation, answer, after}
 use Rattle.conservation.specs.Accepted.{after-accepted}
 use Rattle.primitives.specs.declared.Scalars.{Scalars}
 use Rattle.records.specs.Books.{Tables, books-of, room-of, call-on, Called}
@@ -19,72 +18,14 @@ use Rattle.acceptance.specs.Handed.{accepted, none-refused, facts}
 use Rattle.acceptance.specs.Held.{HeldReady, held-ready}
 use Rattle.file_format.specs.Words.{words}
 use Rattle.file_format.specs.Fields.{many}
-use Rattle.file_format.specs.FieldsLaws.{impossible}
-use Rattle.file_format.specs.Calls.{written, call, call-format}
-use Rattle.calls_reader.specs.Widths.{code-at, call-value-at, fields-good}
+use Rattle.file_format.specs.Calls.{written, call}
 use Rattle.calls_reader.specs.Calls.{call-i-good, calls-good-behind, calls-left-behind, no-calls-left, near}
 use Rattle.table_text.specs.Lines.{lines-words}
 use Rattle.runs.specs.Lines.{lines, with-line, lines-length, lines-words-length}
 use Rattle.runs.specs.InPlace.{InPlace, none, next, calls-on, sizes-none, sizes-then, same-room}
-use Rattle.runs.specs.Ready.{Accepted, CallAt, operation-at, CallsAt, operations-at, Written}
+use Rattle.file_calls.specs.Ready.{Accepted, CallAt, operation-at}
+use Rattle.runs.specs.Ready.{CallsAt, operations-at, Written}
 use Rattle.runs.specs.Promise.{Done}
-
--- ---- the call at word k
-
-code-small : (c : ℕ) (us : List ℕ) → call-format c .ok us ≡ true → (0 < c) × (c ≤ 8)
-code-small zero us e = impossible e
-code-small (suc zero) us e = (omega arith, omega arith)
-code-small (suc (suc zero)) us e = (omega arith, omega arith)
-code-small (suc (suc (suc zero))) us e = (omega arith, omega arith)
-code-small (suc (suc (suc (suc zero)))) us e = (omega arith, omega arith)
-code-small (suc (suc (suc (suc (suc zero))))) us e = (omega arith, omega arith)
-code-small (suc (suc (suc (suc (suc (suc zero)))))) us e = (omega arith, omega arith)
-code-small (suc (suc (suc (suc (suc (suc (suc zero))))))) us e = (omega arith, omega arith)
-code-small (suc (suc (suc (suc (suc (suc (suc (suc zero)))))))) us e = (omega arith, omega arith)
-code-small (suc (suc (suc (suc (suc (suc (suc (suc (suc c))))))))) us e = impossible e
-
-code-kept : (c : ℕ) (us : List ℕ) → call-format c .ok us ≡ true → written (call-format c .value us) .code ≡ c
-code-kept zero us e = impossible e
-code-kept (suc zero) us e = refl
-code-kept (suc (suc zero)) us e = refl
-code-kept (suc (suc (suc zero))) us e = refl
-code-kept (suc (suc (suc (suc zero)))) us e = refl
-code-kept (suc (suc (suc (suc (suc zero))))) us e = refl
-code-kept (suc (suc (suc (suc (suc (suc zero)))))) us e = refl
-code-kept (suc (suc (suc (suc (suc (suc (suc zero))))))) us e = refl
-code-kept (suc (suc (suc (suc (suc (suc (suc (suc zero)))))))) us e = refl
-code-kept (suc (suc (suc (suc (suc (suc (suc (suc (suc c))))))))) us e = impossible e
-
-above-4 : (n : ℕ) → 0 < n → (n ≡ 1 → ⊥) → (n ≡ 2 → ⊥) → (n ≡ 3 → ⊥) → (n ≡ 4 → ⊥) → 4 < n
-above-4 n h a b c d = omega arith
-
-is-8 : (n : ℕ) → 4 < n → n ≤ 8 → (n ≡ 5 → ⊥) → (n ≡ 6 → ⊥) → (n ≡ 7 → ⊥) → n ≡ 8
-is-8 n h k a b c = omega arith
-
-module _ {file : List ℕ} {k : ℕ} (c : CallAt file k) where
-  pub code-range : (0 < code-at (words file) k) × (code-at (words file) k ≤ 8)
-  code-range = code-small _ _ (fields-good (words file) k (c .good))
-
-  -- a code that is none of 1 to 7 is 8
-  pub code-last : {n : ℕ} → n ≡ code-at (words file) k → (n ≡ 1 → ⊥) → (n ≡ 2 → ⊥) → (n ≡ 3 → ⊥) → (n ≡ 4 → ⊥)
-      → (n ≡ 5 → ⊥) → (n ≡ 6 → ⊥) → (n ≡ 7 → ⊥) → code-at (words file) k ≡ 8
-  code-last {n} e a₁ a₂ a₃ a₄ a₅ a₆ a₇ =
-      let r : (0 < n) × (n ≤ 8) = rw e code-range in
-      sym e ∙ is-8 n (above-4 n (r .0) a₁ a₂ a₃ a₄) (r .1) a₅ a₆ a₇
-
-  pub code-written : written (operation-at file k) .code ≡ code-at (words file) k
-  code-written =
-      ap (λ o. written o .code) (call-value-at (words file) k)
-      ∙ code-kept (code-at (words file) k) (drop (k + 1) (words file)) (fields-good (words file) k (c .good))
-
-  pub turn-there : code-at (words file) k ≡ 7 → turn ≡ operation-at file k
-  turn-there e =
-      sym (call-value-at (words file) k ∙ ap (λ n. call-format n .value (drop (k + 1) (words file))) e)
-
--- a promise of the operation that the file holds
-pub called-as : {S : rule.Settings} {op op₂ : Operation} {s r : Scalars} {t u : Tables} {n : ℕ} → op ≡ op₂
-    → Called S op s t u n r → Called S op₂ s t u n r
-called-as {S} {s = s} {r} {t} {u} {n} e c = subst (λ o. Called S o s t u n r) e c
 
 -- ---- accepted books stay accepted in the same buffers
 

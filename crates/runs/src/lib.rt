@@ -1,5 +1,4 @@
 // The calls of a file, carried out on lent books that are tested once.
-pub mod calls; // one call
 pub mod lines; // one call with its line in the results
 
 use primitives::Scalars;
@@ -10,7 +9,8 @@ ghost use Prim.Native.Nat.{_*_, _≤_};
 ghost use lib.ListN.{length};
 ghost use Rattle.primitives.specs.Settings.{settings-of};
 ghost use Rattle.records.specs.Books.{tables};
-ghost use Rattle.runs.specs.Ready.{Accepted, CallsAt, operations-at};
+ghost use Rattle.file_calls.specs.Ready.{Accepted};
+ghost use Rattle.runs.specs.Ready.{CallsAt, operations-at};
 ghost use Rattle.runs.specs.Promise.{Done, CarriedOut};
 
 // What carrying out a calls file answers: the number of its cause, the scalars that it leaves, and how many calls were

@@ -7,8 +7,9 @@ ghost use Prim.Native.Nat.{_+_, _*_, _≤_};
 ghost use lib.ListN.{length};
 ghost use Rattle.primitives.specs.Settings.{settings-of};
 ghost use Rattle.records.specs.Books.{tables};
+ghost use Rattle.file_calls.specs.Ready.{Accepted, CallAt, operation-at};
 ghost use Rattle.runs.specs.Lines.{with-line};
-ghost use Rattle.runs.specs.Ready.{Accepted, CallAt, operation-at, Written};
+ghost use Rattle.runs.specs.Ready.{Written};
 
 // The numbers of line i.
 fn put_line(results: &mut [u64], i: usize, code: u64, answer: u64, total: Gwei)
@@ -50,7 +51,7 @@ pub fn carry_out_line(
         ⌝ }
 {
     let code = calls_reader::code_at(file, k);
-    let outcome = crate::calls::carry_out_call(
+    let outcome = file_calls::carry_out_call(
         settings,
         scalars,
         identities,

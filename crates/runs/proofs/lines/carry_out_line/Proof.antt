@@ -1,13 +1,14 @@
 use mathlib.Core.Path.{sym, _∙_}
 use borrow.Author.Needs.{needs}
-use Rattle.runs.specs.Steps.{code-written, still-accepted, sum-known, line-written}
+use Rattle.file_calls.specs.Laws.{code-written}
+use Rattle.runs.specs.Steps.{still-accepted, sum-known, line-written}
 use Rattle.runs.proofs.lines.carry_out_line.Statement.{statement}
 use Rattle.runs.proofs.lines.carry_out_line.Tie as tie
 use Rattle.runs.proofs.lines.carry_out_line.Reads as reads
 use Rattle.runs.proofs.lines.carry_out_line.Lts as lts
 use Rattle.acceptance.proofs.held.Reads as held-reads
 use Rattle.calls_reader.proofs.code_at.Reads as code-at-reads
-use Rattle.runs.proofs.calls.carry_out_call.Reads as carry-out-call-reads
+use Rattle.file_calls.proofs.carry_out_call.Reads as carry-out-call-reads
 use Rattle.runs.proofs.lines.put_line.Reads as put-line-reads
 
 -- src/lines.rt:52:9

@@ -1,3 +1,4 @@
+use mathlib.Core.Path.{refl}
 use native.Mathlib.Omega.{arith}
 use lib.ListN.{length-set}
 use borrow.Author.Needs.{needs}
@@ -56,7 +57,7 @@ same-length c = search needs
 
 -- src/lines.rt:14:1
 returns : tie.Need-returns
-returns c = search needs
+returns c = refl
 
 pub put-line-spec : {M : Type 1} → statement M
 put-line-spec =

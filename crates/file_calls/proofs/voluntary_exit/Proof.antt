@@ -1,25 +1,25 @@
 use borrow.Author.Needs.{needs}
-use Rattle.runs.specs.Steps.{called-as}
-use Rattle.runs.proofs.calls.voluntary_exit.Statement.{statement}
-use Rattle.runs.proofs.calls.voluntary_exit.Tie as tie
-use Rattle.runs.proofs.calls.voluntary_exit.Reads as reads
-use Rattle.runs.proofs.calls.voluntary_exit.Lts as lts
+use Rattle.file_calls.specs.Laws.{called-as}
+use Rattle.file_calls.proofs.voluntary_exit.Statement.{statement}
+use Rattle.file_calls.proofs.voluntary_exit.Tie as tie
+use Rattle.file_calls.proofs.voluntary_exit.Reads as reads
+use Rattle.file_calls.proofs.voluntary_exit.Lts as lts
 use Rattle.block_processing.proofs.exits.process_voluntary_exit.Reads as process-voluntary-exit-reads
 use Rattle.calls_reader.proofs.exit_at.Reads as exit-at-reads
 
--- src/calls.rt:163:9
+-- src/lib.rt:163:9
 exit-at-requires : tie.Need-exit-at-requires
 exit-at-requires c κs = search needs
 
--- src/calls.rt:164:5
+-- src/lib.rt:164:5
 process-voluntary-exit-requires : tie.Need-process-voluntary-exit-requires
 process-voluntary-exit-requires c κs = search needs
 
--- src/calls.rt:138:1
+-- src/lib.rt:138:1
 same-length : tie.Need-same-length
 same-length c = search needs
 
--- src/calls.rt:138:1
+-- src/lib.rt:138:1
 returns : tie.Need-returns
 returns c = called-as (c .before .before .before .before .exit-at .ensures) (c .before .before
     .process-voluntary-exit .ensures)

@@ -1,28 +1,28 @@
 use native.Mathlib.Omega.{arith}
 use borrow.Author.Needs.{needs}
-use Rattle.runs.specs.Steps.{called-as}
-use Rattle.runs.proofs.calls.reward.Statement.{statement}
-use Rattle.runs.proofs.calls.reward.Tie as tie
-use Rattle.runs.proofs.calls.reward.Reads as reads
-use Rattle.runs.proofs.calls.reward.Lts as lts
+use Rattle.file_calls.specs.Laws.{called-as}
+use Rattle.file_calls.proofs.reward.Statement.{statement}
+use Rattle.file_calls.proofs.reward.Tie as tie
+use Rattle.file_calls.proofs.reward.Reads as reads
+use Rattle.file_calls.proofs.reward.Lts as lts
 use Rattle.calls_reader.proofs.amount_at.Reads as amount-at-reads
 use Rattle.electra.proofs.reward.reward_accepted.Reads as reward-accepted-reads
 
--- src/calls.rt:38:9
+-- src/lib.rt:38:9
 amount-at-requires : tie.Need-amount-at-requires
 amount-at-requires c κs =
     let h = c .before .before .before .before .before .before .pre .1 in
     (h .0 .near, (h .0 .good, (omega (arith, h .1), omega (arith, h .1))))
 
--- src/calls.rt:39:5
+-- src/lib.rt:39:5
 reward-accepted-requires : tie.Need-reward-accepted-requires
 reward-accepted-requires c κs = search needs
 
--- src/calls.rt:13:1
+-- src/lib.rt:13:1
 same-length : tie.Need-same-length
 same-length c = search needs
 
--- src/calls.rt:13:1
+-- src/lib.rt:13:1
 returns : tie.Need-returns
 returns c =
     called-as (c .before .before .before .before .amount-at .ensures .0 (c .before .before .before .before .before

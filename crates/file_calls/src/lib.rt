@@ -7,7 +7,7 @@ ghost use Rattle.primitives.specs.Settings.{settings-of};
 ghost use Rattle.records.specs.Books.{tables, Called};
 ghost use Rattle.file_format.specs.Words.{words};
 ghost use Rattle.calls_reader.specs.Widths.{code-at};
-ghost use Rattle.runs.specs.Ready.{Accepted, CallAt, operation-at};
+ghost use Rattle.file_calls.specs.Ready.{Accepted, CallAt, operation-at};
 
 // Code 1.
 fn reward(

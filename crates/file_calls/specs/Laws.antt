@@ -1,0 +1,73 @@
+-- The codes of calls, and the promise of the operation that a call of the file is.
+use mathlib.Core.Path.{_≡_, refl, sym, ap, _∙_, subst}
+use mathlib.Core.Bool.{true}
+use mathlib.Core.List.{List}
+use Prim.Native.Nat.{ℕ, zero, suc, _+_, _≤_, _<_}
+use native.Mathlib.Omega.{arith}
+use lib.ListN.{drop}
+use Rattle.rules.specs.Types as rule
+use Rattle.rules.specs.Calls.{Operation, turn}
+use Rattle.primitives.specs.declared.Scalars.{Scalars}
+use Rattle.records.specs.Books.{Tables, Called}
+use Rattle.file_format.specs.Words.{words}
+use Rattle.file_format.specs.FieldsLaws.{impossible}
+use Rattle.file_format.specs.Calls.{written, call-format}
+use Rattle.calls_reader.specs.Widths.{code-at, call-value-at, fields-good}
+use Rattle.file_calls.specs.Ready.{CallAt, operation-at}
+
+-- ---- the call at word k
+
+code-small : (c : ℕ) (us : List ℕ) → call-format c .ok us ≡ true → (0 < c) × (c ≤ 8)
+code-small zero us e = impossible e
+code-small (suc zero) us e = (omega arith, omega arith)
+code-small (suc (suc zero)) us e = (omega arith, omega arith)
+code-small (suc (suc (suc zero))) us e = (omega arith, omega arith)
+code-small (suc (suc (suc (suc zero)))) us e = (omega arith, omega arith)
+code-small (suc (suc (suc (suc (suc zero))))) us e = (omega arith, omega arith)
+code-small (suc (suc (suc (suc (suc (suc zero)))))) us e = (omega arith, omega arith)
+code-small (suc (suc (suc (suc (suc (suc (suc zero))))))) us e = (omega arith, omega arith)
+code-small (suc (suc (suc (suc (suc (suc (suc (suc zero)))))))) us e = (omega arith, omega arith)
+code-small (suc (suc (suc (suc (suc (suc (suc (suc (suc c))))))))) us e = impossible e
+
+code-kept : (c : ℕ) (us : List ℕ) → call-format c .ok us ≡ true → written (call-format c .value us) .code ≡ c
+code-kept zero us e = impossible e
+code-kept (suc zero) us e = refl
+code-kept (suc (suc zero)) us e = refl
+code-kept (suc (suc (suc zero))) us e = refl
+code-kept (suc (suc (suc (suc zero)))) us e = refl
+code-kept (suc (suc (suc (suc (suc zero))))) us e = refl
+code-kept (suc (suc (suc (suc (suc (suc zero)))))) us e = refl
+code-kept (suc (suc (suc (suc (suc (suc (suc zero))))))) us e = refl
+code-kept (suc (suc (suc (suc (suc (suc (suc (suc zero)))))))) us e = refl
+code-kept (suc (suc (suc (suc (suc (suc (suc (suc (suc c))))))))) us e = impossible e
+
+above-4 : (n : ℕ) → 0 < n → (n ≡ 1 → ⊥) → (n ≡ 2 → ⊥) → (n ≡ 3 → ⊥) → (n ≡ 4 → ⊥) → 4 < n
+above-4 n h a b c d = omega arith
+
+is-8 : (n : ℕ) → 4 < n → n ≤ 8 → (n ≡ 5 → ⊥) → (n ≡ 6 → ⊥) → (n ≡ 7 → ⊥) → n ≡ 8
+is-8 n h k a b c = omega arith
+
+module _ {file : List ℕ} {k : ℕ} (c : CallAt file k) where
+  pub code-range : (0 < code-at (words file) k) × (code-at (words file) k ≤ 8)
+  code-range = code-small _ _ (fields-good (words file) k (c .good))
+
+  -- a code that is none of 1 to 7 is 8
+  pub code-last : {n : ℕ} → n ≡ code-at (words file) k → (n ≡ 1 → ⊥) → (n ≡ 2 → ⊥) → (n ≡ 3 → ⊥) → (n ≡ 4 → ⊥)
+      → (n ≡ 5 → ⊥) → (n ≡ 6 → ⊥) → (n ≡ 7 → ⊥) → code-at (words file) k ≡ 8
+  code-last {n} e a₁ a₂ a₃ a₄ a₅ a₆ a₇ =
+      let r : (0 < n) × (n ≤ 8) = rw e code-range in
+      sym e ∙ is-8 n (above-4 n (r .0) a₁ a₂ a₃ a₄) (r .1) a₅ a₆ a₇
+
+  pub code-written : written (operation-at file k) .code ≡ code-at (words file) k
+  code-written =
+      ap (λ o. written o .code) (call-value-at (words file) k)
+      ∙ code-kept (code-at (words file) k) (drop (k + 1) (words file)) (fields-good (words file) k (c .good))
+
+  pub turn-there : code-at (words file) k ≡ 7 → turn ≡ operation-at file k
+  turn-there e =
+      sym (call-value-at (words file) k ∙ ap (λ n. call-format n .value (drop (k + 1) (words file))) e)
+
+-- a promise of the operation that the file holds
+pub called-as : {S : rule.Settings} {op op₂ : Operation} {s r : Scalars} {t u : Tables} {n : ℕ} → op ≡ op₂
+    → Called S op s t u n r → Called S op₂ s t u n r
+called-as {S} {s = s} {r} {t} {u} {n} e c = subst (λ o. Called S o s t u n r) e c
