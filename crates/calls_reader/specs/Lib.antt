@@ -1,0 +1,4 @@
+pub mod Widths
+pub mod Calls
+pub mod Laws
+pub mod Fields
