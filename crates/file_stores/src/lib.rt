@@ -9,6 +9,12 @@ ghost use Rattle.file_format.specs.Calls.{signature};
 ghost use Rattle.file_format.specs.PutLaws.{put};
 ghost use Rattle.file_stores.specs.Laws.{field-word};
 
+// What a writer of a file answers: the number of its cause, and how many bytes the file has.
+pub struct Written {
+    pub number: u8,
+    pub length: usize,
+}
+
 // ---- one word
 
 pub fn put_word(out: &mut [u8], k: usize, w: u32)
