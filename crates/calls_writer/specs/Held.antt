@@ -10,7 +10,7 @@ use lib.Seq.{take-at, take-append-le, length-take-le}
 use lib.Dec.{ltb, eqb}
 use borrow.Author.Tests.{ltb-true, lt-ltb, le-ltb, eq-eqb}
 use Rattle.lists.specs.Base.{if_then_else_, every}
-use Rattle.lists.specs.Laws.{both, join, if-true, if-false, every-append-one}
+use Rattle.lists.specs.Laws.{both, join, if-true, if-false, and-false, every-append-one}
 use Rattle.rules.specs.Calls.{Operation}
 use Rattle.file_format.specs.Words.{word, calls-head, end-word, with-end, is-byte, bytes, words}
 use Rattle.file_format.specs.Fields.{Format, each, many}
@@ -96,6 +96,18 @@ module _ (os : List Operation) where
     more-full h =
         let many : calls-limit ≤ length (one-more os o) = omega (arith, more-length) in
         rw (le-ltb (length (one-more os o)) calls-limit many)
+
+-- a call that cannot be written
+every-fails : {A : Type 0} (t : A → Bool) (xs : List A) (x : A) → t x ≡ false → every t (xs ++ (x ∷ [])) ≡ false
+every-fails t [] x e = rw e
+every-fails t (y ∷ ys) x e = and-false (t y) (every t (ys ++ (x ∷ []))) (every-fails t ys x e)
+
+pub never-writable : (os : List Operation) (o : Operation) → call .domain o ≡ false
+    → calls-writable (one-more os o) ≡ false
+unfolding calls-format many
+never-writable os o e =
+    let n = length (one-more os o) in
+    and-false (ltb n calls-limit) _ (and-false (eqb n n) _ (every-fails (call .domain) os o e))
 
 -- ---- a buffer whose first `size` bytes are the file of the calls os
 

@@ -2,7 +2,7 @@
 use mathlib.Core.Path.{_≡_, refl, sym, ap, _∙_}
 use mathlib.Core.Bool.{Bool, true, false, not}
 use mathlib.Core.List.{List, [], _∷_, _++_}
-use mathlib.Core.Option.{some}
+use mathlib.Core.Option.{Option, some, none}
 use Prim.Native.Nat.{ℕ, _+_, _-_, _*_, _/_, _≤_, _<_}
 use native.Mathlib.Omega.{arith}
 use lib.ListN.{length, getD, take, drop, length-append}
@@ -24,7 +24,7 @@ use Rattle.file_format.specs.PutLaws.{put}
 use Rattle.file_stores.specs.Laws.{words-front, put-next, put-length, put-closed, put-over}
 use Rattle.calls_writer.specs.Added.{begin-number, Begun, add-number, Added}
 use Rattle.calls_writer.specs.Held.{Holds, held, holds, broken, calls-words, more-words, more-file-length}
-use Rattle.calls_writer.specs.Held.{more-writable, more-full, held-few, file-size, size-words, end-place}
+use Rattle.calls_writer.specs.Held.{never-writable, more-writable, more-full, held-few, file-size, size-words, end-place}
 use Rattle.calls_writer.specs.Held.{size-least, count-held, held-front}
 use Rattle.calls_writer.specs.Fits.{Fits}
 
@@ -273,6 +273,29 @@ pub added-refused : (o : Operation) (size w n : ℕ) (out : List ℕ) → Opened
 added-refused o size w n out p f z = record {
   number = p .number o f;
   done = λ x. absurd (z x);
+  refused = λ x. (refl, refl);
+}
+
+-- ---- a call that cannot be written: nothing is stored
+
+never-answer : (space : ℕ) (o : Operation) → call .domain o ≡ false → (r : Option (List Operation))
+    → added-answer space o r ≡ 60
+never-answer space o e none = refl
+never-answer space o e (some os) = if-true _ _ _ (ap not (never-writable os o e))
+
+either : (t : Bool) (x y : ℕ) → y ≡ x → (if t then x else y) ≡ x
+either true x y e = if-true true x y refl
+either false x y e = if-false false x y refl ∙ e
+
+never-number : (o : Operation) (size : ℕ) (out : List ℕ) → call .domain o ≡ false → 60 ≡ add-number out size o
+unfolding add-number add-answer
+never-number o size out e =
+    sym (either (ltb (length out) size) 60 _ (never-answer (length out) o e (read-calls (take size out))))
+
+pub added-never : (o : Operation) (size : ℕ) (out : List ℕ) → call .domain o ≡ false → Added o size out out 60 size
+added-never o size out e = record {
+  number = never-number o size out e;
+  done = λ x. let z : ⊥ = omega arith in absurd z;
   refused = λ x. (refl, refl);
 }
 

@@ -2,9 +2,11 @@
 // returned; each call is added at its end. 60, then 61, before the first store.
 use calls_reader::calls_count;
 use calls_reader::calls_file_ok;
+use expected_withdrawals::Withdrawal;
 use file_stores::Written;
 use file_stores::put_count;
 use file_stores::put_end;
+use file_stores::put_field;
 use file_stores::put_number;
 use file_stores::put_signature;
 use file_stores::put_word;
@@ -19,10 +21,13 @@ ghost use lib.ListN.{length};
 ghost use Rattle.rules.specs.Calls.{reward, penalty, deposit-receipt, voluntary-exit, withdrawal-request};
 ghost use Rattle.rules.specs.Calls.{consolidation, turn, withdrawals};
 ghost use Rattle.file_format.specs.Words.{word, words};
-ghost use Rattle.file_format.specs.Calls.{call, amount-fields};
+ghost use Rattle.expected_withdrawals.specs.Expected.{plain-withdrawal, handed-list};
+ghost use Rattle.file_format.specs.Fields.{each};
+ghost use Rattle.file_format.specs.Calls.{amount-fields, withdrawal, call};
 ghost use Rattle.file_format.specs.Places.{count-at};
 ghost use Rattle.file_format.specs.PutLaws.{put};
 ghost use Rattle.calls_writer.specs.Added.{Begun, Added};
+ghost use Rattle.calls_writer.specs.Listed.{Listed};
 ghost use Rattle.calls_writer.specs.Laws.{Opened, Ready, closed};
 
 // ---- around each call
@@ -138,6 +143,63 @@ pub fn add_penalty(out: &mut [u8], length: usize, i: ValidatorIndex, amount: Gwe
     close(out, length, 7)
 }
 
+// ---- receipt, code 3
+
+fn put_receipt(
+    out: &mut [u8],
+    k: usize,
+    public_key: [u8; 48],
+    withdrawal_credentials: [u8; 32],
+    amount: Gwei,
+    index: u64,
+    valid: bool,
+)
+    requires { ⌜ (k + 35) * 4 ≤ length (now out) ⌝ }
+    ensures { λ _. ⌜
+        now (out .exit)
+        ≡ put (now (out .entry)) k
+        (call .write (deposit-receipt «public_key» «withdrawal_credentials» (amount .0) index valid))
+        ⌝ }
+{
+    put_code(out, k, 3);
+    put_field(out, k + 1, &public_key);
+    put_field(out, k + 17, &withdrawal_credentials);
+    put_number(out, k + 28, amount.0);
+    put_number(out, k + 31, index);
+    put_signature(out, k + 34, valid);
+}
+
+pub fn add_deposit_receipt(
+    out: &mut [u8],
+    length: usize,
+    public_key: [u8; 48],
+    withdrawal_credentials: [u8; 32],
+    amount: Gwei,
+    index: u64,
+    valid: bool,
+) -> Written
+    ensures { λ r. ⌜
+        Added (deposit-receipt «public_key» «withdrawal_credentials» (amount .0) index valid) length
+        (now (out .entry)) (now (out .exit)) (r .number) (r .length)
+        ⌝ }
+{
+    let number = open(out, length, 35);
+    if number != answers::DONE {
+        return Written { number, length };
+    }
+    let k = length / 4 - 1;
+    put_receipt(
+        out,
+        k,
+        public_key,
+        withdrawal_credentials,
+        amount,
+        index,
+        valid,
+    );
+    close(out, length, 35)
+}
+
 // ---- exit, code 4
 
 fn put_exit(out: &mut [u8], k: usize, i: ValidatorIndex, epoch: Epoch, valid: bool)
@@ -165,6 +227,48 @@ pub fn add_voluntary_exit(out: &mut [u8], length: usize, i: ValidatorIndex, epoc
     let k = length / 4 - 1;
     put_exit(out, k, i, epoch, valid);
     close(out, length, 8)
+}
+
+// ---- request, code 5
+
+fn put_request(
+    out: &mut [u8],
+    k: usize,
+    source_address: [u8; 20],
+    public_key: [u8; 48],
+    amount: Gwei,
+)
+    requires { ⌜ (k + 27) * 4 ≤ length (now out) ⌝ }
+    ensures { λ _. ⌜
+        now (out .exit)
+        ≡ put (now (out .entry)) k (call .write (withdrawal-request «source_address» «public_key» (amount .0)))
+        ⌝ }
+{
+    put_code(out, k, 5);
+    put_field(out, k + 1, &source_address);
+    put_field(out, k + 8, &public_key);
+    put_number(out, k + 24, amount.0);
+}
+
+pub fn add_withdrawal_request(
+    out: &mut [u8],
+    length: usize,
+    source_address: [u8; 20],
+    public_key: [u8; 48],
+    amount: Gwei,
+) -> Written
+    ensures { λ r. ⌜
+        Added (withdrawal-request «source_address» «public_key» (amount .0)) length (now (out .entry))
+        (now (out .exit)) (r .number) (r .length)
+        ⌝ }
+{
+    let number = open(out, length, 27);
+    if number != answers::DONE {
+        return Written { number, length };
+    }
+    let k = length / 4 - 1;
+    put_request(out, k, source_address, public_key, amount);
+    close(out, length, 27)
 }
 
 // ---- consolidation, code 6
@@ -225,4 +329,69 @@ pub fn add_turn(out: &mut [u8], length: usize) -> Written
     let k = length / 4 - 1;
     put_code(out, k, 7);
     close(out, length, 1)
+}
+
+// ---- withdrawals, code 8
+
+fn put_withdrawal(out: &mut [u8], k: usize, w: Withdrawal)
+    requires { ⌜ (k + 16) * 4 ≤ length (now out) ⌝ }
+    ensures { λ _. ⌜ now (out .exit) ≡ put (now (out .entry)) k (withdrawal .write (plain-withdrawal w)) ⌝ }
+{
+    put_number(out, k, w.index.0);
+    put_number(out, k + 3, w.validator_index.0 as u64);
+    put_field(out, k + 6, &w.address);
+    put_number(out, k + 13, w.amount.0);
+}
+
+// The first `count` of the sixteen records.
+fn put_list(out: &mut [u8], k: usize, list: [Withdrawal; 16], count: usize)
+    requires { ⌜ Listed list ⌝ }
+    requires { ⌜ count ≤ 16 ⌝ }
+    requires { ⌜ (k + count * 16) * 4 ≤ length (now out) ⌝ }
+    ensures { λ _. ⌜
+        now (out .exit) ≡ put (now (out .entry)) k (each (withdrawal .write) (handed-list list count))
+        ⌝ }
+{
+    let mut i: usize = 0;
+    while i < count {
+        let w = list[i];
+        put_withdrawal(out, k + i * 16, w);
+        i += 1;
+    }
+}
+
+fn put_withdrawals(out: &mut [u8], k: usize, list: [Withdrawal; 16], count: usize)
+    requires { ⌜ Listed list ⌝ }
+    requires { ⌜ count ≤ 16 ⌝ }
+    requires { ⌜ (k + 2 + count * 16) * 4 ≤ length (now out) ⌝ }
+    ensures { λ _. ⌜
+        now (out .exit) ≡ put (now (out .entry)) k (call .write (withdrawals (handed-list list count)))
+        ⌝ }
+{
+    put_code(out, k, 8);
+    put_count(out, k + 1, count);
+    put_list(out, k + 2, list, count);
+}
+
+// 60 too where the count is above 16.
+pub fn add_withdrawals(out: &mut [u8], length: usize, list: [Withdrawal; 16], count: usize) -> Written
+    ensures { λ r. ⌜
+        Added (withdrawals (handed-list list count)) length (now (out .entry)) (now (out .exit)) (r .number)
+        (r .length)
+        ⌝ }
+{
+    if count > 16 {
+        return Written {
+            number: answers::BROKEN_FILE,
+            length,
+        };
+    }
+    let width = 2 + count * 16;
+    let number = open(out, length, width);
+    if number != answers::DONE {
+        return Written { number, length };
+    }
+    let k = length / 4 - 1;
+    put_withdrawals(out, k, list, count);
+    close(out, length, width)
 }

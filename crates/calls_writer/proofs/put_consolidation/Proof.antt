@@ -50,7 +50,15 @@ same-length c = search needs
 
 -- src/lib.rt:172:1
 returns : tie.Need-returns
-returns c = search (consolidation-put, needs)
+returns c =
+    let flag = c .before .before in
+    let epoch = flag .before .before .before .before in
+    let target = epoch .before .before .before .before in
+    let source = target .before .before .before .before in
+    let code = source .before .before .before .before in
+    let start = code .before .before .before in
+    consolidation-put _ _ _ _ _ _ _ _ _ _ _ (start .pre) (code .put-code .ensures) (source .put-number .ensures)
+    (target .put-number2 .ensures) (epoch .put-number3 .ensures) (flag .put-signature .ensures)
 
 pub put-consolidation-spec : {M : Type 1} → statement M
 put-consolidation-spec =
