@@ -207,7 +207,7 @@ listed-done list n out last k i p m h l e =
 
 -- the code, the count, and the list
 pub withdrawals-put : (out o₁ o₂ o₃ : List ℕ) (k : ℕ) (list : List Withdrawal) (n : ℕ) → Listed list → n ≤ 16
-    → (k + 2 + n * 16) * 4 ≤ length out
+    → (k + (2 + n * 16)) * 4 ≤ length out
     → o₁ ≡ put out k (word 9 8 ∷ []) → o₂ ≡ put o₁ (k + 1) (word 2 n ∷ [])
     → o₃ ≡ put o₂ (k + 2) (fields.each (withdrawal .write) (handed-list list n))
     → o₃ ≡ put out k (call .write (withdrawals (handed-list list n)))

@@ -363,7 +363,7 @@ fn put_list(out: &mut [u8], k: usize, list: [Withdrawal; 16], count: usize)
 fn put_withdrawals(out: &mut [u8], k: usize, list: [Withdrawal; 16], count: usize)
     requires { ⌜ Listed list ⌝ }
     requires { ⌜ count ≤ 16 ⌝ }
-    requires { ⌜ (k + 2 + count * 16) * 4 ≤ length (now out) ⌝ }
+    requires { ⌜ (k + (2 + count * 16)) * 4 ≤ length (now out) ⌝ }
     ensures { λ _. ⌜
         now (out .exit) ≡ put (now (out .entry)) k (call .write (withdrawals (handed-list list count)))
         ⌝ }
