@@ -1,6 +1,6 @@
 -- Calls that can be written, and how many words each has with its code.
-use mathlib.Core.Path.{_≡_, refl, sym, ap, _∙_}
-use mathlib.Core.Bool.{Bool, true, false, _&&_}
+use mathlib.Core.Path.{_≡_, refl, _∙_}
+use mathlib.Core.Bool.{Bool, true, false}
 use mathlib.Core.List.{List, [], _∷_, _++_}
 use Prim.Native.Nat.{ℕ, _+_, _*_, _^_, _≤_, _<_}
 use native.Mathlib.Omega.{arith}
@@ -9,9 +9,9 @@ use borrow.Author.Tests.{lt-ltb, eq-eqb}
 use Rattle.lists.specs.Base.{every}
 use Rattle.lists.specs.Laws.{join}
 use Rattle.rules.specs.Calls.{Operation, reward, penalty, deposit-receipt, voluntary-exit, withdrawal-request}
-use Rattle.rules.specs.Calls.{consolidation, turn, withdrawals}
+use Rattle.rules.specs.Calls.{consolidation, turn}
 use Rattle.file_format.specs.Words.{word, is-byte}
-use Rattle.file_format.specs.Fields.{Format, number, field, flag, field-words}
+use Rattle.file_format.specs.Fields.{number, field, flag, field-words}
 use Rattle.file_format.specs.Calls.{signature, amount-fields, call}
 use Rattle.file_format.specs.PutLaws.{put}
 use Rattle.file_stores.specs.Laws.{put-next, put-length, field-length}

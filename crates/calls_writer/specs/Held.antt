@@ -1,6 +1,6 @@
 -- A buffer that begins with a calls file, and the words of that file with one call more.
 use mathlib.Core.Path.{_≡_, refl, sym, ap, _∙_}
-use mathlib.Core.Bool.{Bool, true, false, _&&_}
+use mathlib.Core.Bool.{Bool, true, false}
 use mathlib.Core.List.{List, [], _∷_, _++_, append-nil}
 use mathlib.Core.Option.{some, none}
 use Prim.Native.Nat.{ℕ, zero, suc, _+_, _-_, _*_, _/_, _≤_, _<_}
@@ -9,11 +9,11 @@ use lib.ListN.{length, getD, take, drop, length-append, take-append-drop}
 use lib.Seq.{take-at, take-append-le, length-take-le}
 use lib.Dec.{ltb, eqb}
 use borrow.Author.Tests.{ltb-true, lt-ltb, le-ltb, eq-eqb}
-use Rattle.lists.specs.Base.{if_then_else_, every}
+use Rattle.lists.specs.Base.{every}
 use Rattle.lists.specs.Laws.{both, join, if-true, if-false, and-false, every-append-one}
 use Rattle.rules.specs.Calls.{Operation}
 use Rattle.file_format.specs.Words.{word, calls-head, end-word, with-end, is-byte, bytes, words}
-use Rattle.file_format.specs.Fields.{Format, each, many}
+use Rattle.file_format.specs.Fields.{each, many}
 use Rattle.file_format.specs.Calls.{call, calls-limit, calls-format, calls-writable}
 use Rattle.file_format.specs.File.{write-file, file-ok, read-file, write-calls, read-calls}
 use Rattle.file_format.specs.Places.{count-at}
@@ -22,7 +22,7 @@ use Rattle.file_format.specs.FieldsLaws.{word-kept}
 use Rattle.file_format.specs.CallsLaws.{calls-format-lawful}
 use Rattle.file_format.specs.FileLaws.{words-bytes, length-bytes, ok-written}
 use Rattle.file_format.specs.PutLaws.{put, bytes-append}
-use Rattle.file_stores.specs.Laws.{each-append, words-front}
+use Rattle.file_stores.specs.Laws.{each-append}
 
 -- ---- bytes
 

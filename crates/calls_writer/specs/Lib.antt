@@ -3,5 +3,7 @@ pub mod Known
 pub mod Held
 pub mod Fits
 pub mod Listed
-pub mod Laws
+pub mod Opened
+pub mod Closed
+pub mod Begun
 pub mod Theorems

@@ -1,12 +1,12 @@
 -- Lists of withdrawals: sixteen records that are handed by value, of which the first n are written.
 use mathlib.Core.Path.{_≡_, refl, sym, ap, _∙_, subst}
-use mathlib.Core.Bool.{Bool, true, false, _&&_}
+use mathlib.Core.Bool.{true, false}
 use mathlib.Core.List.{List, [], _∷_, _++_, map, map-id}
 use Prim.Native.Nat.{ℕ, zero, suc, _+_, _*_, _≤_, _<_}
 use native.Mathlib.Nat.{not-suc-le-zero, le-of-suc-le-suc}
 use native.Mathlib.Omega.{arith}
 use lib.ListN.{length, getD, length-append}
-use lib.Dec.{ltb, eqb}
+use lib.Dec.{eqb}
 use mir.Val.{Val}
 use denote.Shadow.{shadow}
 use denote.Laws.{Is}
@@ -23,7 +23,7 @@ use Rattle.expected_withdrawals.specs.Expected.{plain-withdrawal, padded, hande
 use Rattle.expected_withdrawals.proofs.Withdrawal.{the-row}
 use Rattle.file_format.specs.Words.{word, is-byte}
 use Rattle.file_format.specs.Fields as fields
-use Rattle.file_format.specs.Fields.{Format, number, field, field-words, many}
+use Rattle.file_format.specs.Fields.{number, field, field-words, many}
 use Rattle.file_format.specs.Calls.{withdrawal, call}
 use Rattle.file_format.specs.PutLaws.{put}
 use Rattle.file_stores.specs.Laws.{put-none, put-next, put-length, put-row, field-length}
@@ -190,8 +190,8 @@ unfolding first-listed
 listed-more list n out mid last k i p m h room e f =
     put-row (withdrawal .write) 16 n (λ j. plain-withdrawal (getD list j past))
     (λ j q.
-        withdrawal-length (plain-withdrawal (getD list j past))
-        (fine-at list j (omega (arith, p .whole)) (p .fine)))
+    withdrawal-length (plain-withdrawal (getD list j past))
+    (fine-at list j (omega (arith, p .whole)) (p .fine)))
     out mid last k i (k + i * 16) h room refl e f
 
 pub listed-done : (list : List Withdrawal) (n : ℕ) (out last : List ℕ) (k i : ℕ) → Listed list → n ≤ 16 → i ≤ n → n ≤ i

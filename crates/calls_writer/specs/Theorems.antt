@@ -1,19 +1,18 @@
 -- The promises leave no second outcome, and what was written is read.
 use mathlib.Core.Path.{_≡_, refl, sym, ap, _∙_}
-use mathlib.Core.Bool.{Bool, true, false, not}
-use mathlib.Core.List.{List, [], _∷_, _++_}
+use mathlib.Core.Bool.{true, not}
+use mathlib.Core.List.{List, []}
 use mathlib.Core.Option.{Option, some, none}
-use Prim.Native.Nat.{ℕ, zero, suc, _≤_, _<_}
+use Prim.Native.Nat.{ℕ, zero, suc}
 use native.Mathlib.Omega.{arith}
 use lib.ListN.{length, take, drop}
 use lib.Seq.{take-at}
 use lib.Dec.{ltb}
-use Rattle.lists.specs.Base.{if_then_else_}
 use Rattle.lists.specs.Laws.{passed, not-not}
 use Rattle.rules.specs.Calls.{Operation}
 use Rattle.file_format.specs.Calls.{calls-format, calls-writable}
 use Rattle.file_format.specs.File.{write-calls, read-calls}
-use Rattle.file_format.specs.Answers.{add-answer, added-answer, one-more, over}
+use Rattle.file_format.specs.Answers.{add-answer, added-answer, one-more}
 use Rattle.file_format.specs.CallsLaws.{calls-format-lawful}
 use Rattle.file_format.specs.Fields.{many}
 use Rattle.file_format.specs.FileLaws.{some-same, read-written}
@@ -95,6 +94,7 @@ added-read o size out last l p os r =
     let t = taken o size out (sym (p .number)) in
     let same : t .os ≡ os = some-same (sym (t .read) ∙ r) in
     let bs = write-calls (one-more os o) in
+    let good = ap (λ xs. calls-writable (one-more xs o)) (sym same) ∙ t .writable in
     ap (λ xs. read-calls (take l xs)) (a .0)
     ∙ ap read-calls (take-at bs (drop (length bs) out) l (sym (a .1)))
-    ∙ read-written calls-format-lawful (one-more os o) (ap (λ xs. calls-writable (one-more xs o)) (sym same) ∙ t .writable)
+    ∙ read-written calls-format-lawful (one-more os o) good

@@ -16,19 +16,19 @@ use primitives::ValidatorIndex;
 use primitives::answers;
 ghost use mathlib.Core.Path.{_≡_};
 ghost use mathlib.Core.List.{[], _∷_};
-ghost use Prim.Native.Nat.{_+_, _-_, _*_, _/_, _≤_, _<_};
+ghost use Prim.Native.Nat.{_+_, _-_, _*_, _/_, _≤_};
 ghost use lib.ListN.{length};
 ghost use Rattle.rules.specs.Calls.{reward, penalty, deposit-receipt, voluntary-exit, withdrawal-request};
 ghost use Rattle.rules.specs.Calls.{consolidation, turn, withdrawals};
-ghost use Rattle.file_format.specs.Words.{word, words};
 ghost use Rattle.expected_withdrawals.specs.Expected.{plain-withdrawal, handed-list};
+ghost use Rattle.file_format.specs.Words.{word};
 ghost use Rattle.file_format.specs.Fields.{each};
 ghost use Rattle.file_format.specs.Calls.{amount-fields, withdrawal, call};
-ghost use Rattle.file_format.specs.Places.{count-at};
 ghost use Rattle.file_format.specs.PutLaws.{put};
 ghost use Rattle.calls_writer.specs.Added.{Begun, Added};
 ghost use Rattle.calls_writer.specs.Listed.{Listed};
-ghost use Rattle.calls_writer.specs.Laws.{Opened, Ready, closed};
+ghost use Rattle.calls_writer.specs.Opened.{Opened};
+ghost use Rattle.calls_writer.specs.Closed.{Ready, closed};
 
 // ---- around each call
 
@@ -51,6 +51,15 @@ fn open(out: &[u8], size: usize, width: usize) -> u8
         return answers::WRITER_BUFFER_SHORT;
     }
     answers::DONE
+}
+
+// The code, kind 9.
+fn put_code(out: &mut [u8], k: usize, code: u32)
+    requires { ⌜ (k + 1) * 4 ≤ length (now out) ⌝ }
+    requires { ⌜ code ≤ 8 ⌝ }
+    ensures { λ _. ⌜ now (out .exit) ≡ put (now (out .entry)) k (word 9 code ∷ []) ⌝ }
+{
+    put_word(out, k, 0x9000_0000 + code);
 }
 
 // The count raised by one, and the end word behind the call's words, which stand where the old end word was.
@@ -93,15 +102,6 @@ pub fn new_calls(out: &mut [u8]) -> Written
 }
 
 // ---- reward and penalty, codes 1 and 2
-
-// The code, kind 9.
-fn put_code(out: &mut [u8], k: usize, code: u32)
-    requires { ⌜ (k + 1) * 4 ≤ length (now out) ⌝ }
-    requires { ⌜ code ≤ 8 ⌝ }
-    ensures { λ _. ⌜ now (out .exit) ≡ put (now (out .entry)) k (word 9 code ∷ []) ⌝ }
-{
-    put_word(out, k, 0x9000_0000 + code);
-}
 
 fn put_amount(out: &mut [u8], k: usize, code: u32, i: ValidatorIndex, amount: Gwei)
     requires { ⌜ (k + 7) * 4 ≤ length (now out) ⌝ }
@@ -214,7 +214,13 @@ fn put_exit(out: &mut [u8], k: usize, i: ValidatorIndex, epoch: Epoch, valid: bo
     put_signature(out, k + 7, valid);
 }
 
-pub fn add_voluntary_exit(out: &mut [u8], length: usize, i: ValidatorIndex, epoch: Epoch, valid: bool) -> Written
+pub fn add_voluntary_exit(
+    out: &mut [u8],
+    length: usize,
+    i: ValidatorIndex,
+    epoch: Epoch,
+    valid: bool,
+) -> Written
     ensures { λ r. ⌜
         Added (voluntary-exit (i .0) (epoch .0) valid) length (now (out .entry)) (now (out .exit)) (r .number)
         (r .length)
@@ -374,7 +380,12 @@ fn put_withdrawals(out: &mut [u8], k: usize, list: [Withdrawal; 16], count: usiz
 }
 
 // 60 too where the count is above 16.
-pub fn add_withdrawals(out: &mut [u8], length: usize, list: [Withdrawal; 16], count: usize) -> Written
+pub fn add_withdrawals(
+    out: &mut [u8],
+    length: usize,
+    list: [Withdrawal; 16],
+    count: usize,
+) -> Written
     ensures { λ r. ⌜
         Added (withdrawals (handed-list list count)) length (now (out .entry)) (now (out .exit)) (r .number)
         (r .length)

@@ -9,12 +9,6 @@ ghost use Rattle.file_format.specs.Calls.{signature};
 ghost use Rattle.file_format.specs.PutLaws.{put};
 ghost use Rattle.file_stores.specs.Laws.{field-word};
 
-// What a writer of a file answers: the number of its cause, and how many bytes the file has.
-pub struct Written {
-    pub number: u8,
-    pub length: usize,
-}
-
 // ---- one word
 
 pub fn put_word(out: &mut [u8], k: usize, w: u32)
@@ -144,4 +138,12 @@ pub fn put_end(out: &mut [u8], n: usize)
 {
     let sum = file_words::words_sum(out, n);
     put_word(out, n, 0x8000_0000 + sum % 0x1000_0000);
+}
+
+// ---- a whole file
+
+// What a writer of a file answers: the number of its cause, and how many bytes the file has.
+pub struct Written {
+    pub number: u8,
+    pub length: usize,
 }

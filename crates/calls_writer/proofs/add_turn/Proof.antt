@@ -1,43 +1,31 @@
 use borrow.Author.Needs.{needs}
 use Rattle.calls_writer.specs.Fits.{turn-fits, turn-put}
-use Rattle.calls_writer.specs.Laws.{open-place, open-room, call-ready, added-refused, added-done}
+use Rattle.calls_writer.specs.Opened.{open-place, open-room, added-refused}
+use Rattle.calls_writer.specs.Closed.{call-ready, added-done}
 use Rattle.calls_writer.proofs.add_turn.Statement.{statement}
 use Rattle.calls_writer.proofs.add_turn.Tie as tie
-use Rattle.calls_writer.proofs.add_turn.Reads as reads
-use Rattle.calls_writer.proofs.add_turn.Lts as lts
-use Rattle.calls_writer.proofs.close.Reads as close-reads
-use Rattle.calls_writer.proofs.open.Reads as open-reads
-use Rattle.calls_writer.proofs.put_code.Reads as put-code-reads
 
--- src/lib.rt:76:9
 open-requires : tie.Need-open-requires
 open-requires c κs = search needs
 
--- src/lib.rt:78:9
 same-length : tie.Need-same-length
 same-length c = search needs
 
--- src/lib.rt:78:9
 returns : tie.Need-returns
 returns c = search (added-refused, turn-fits, needs)
 
--- src/lib.rt:80:19
 sub-k : tie.Need-sub-k
 sub-k c = search (open-place, needs)
 
--- src/lib.rt:80:5
 put-code-requires : tie.Need-put-code-requires
 put-code-requires c κs = search (open-room, needs)
 
--- src/lib.rt:81:5
 close-requires : tie.Need-close-requires
 close-requires c κs = search (call-ready, turn-fits, turn-put, needs)
 
--- src/lib.rt:73:1
 same-length-2 : tie.Need-same-length-2
 same-length-2 c = search needs
 
--- src/lib.rt:73:1
 returns-2 : tie.Need-returns-2
 returns-2 c = search (added-done, turn-fits, turn-put, needs)
 

@@ -2,36 +2,25 @@ use borrow.Author.Needs.{needs}
 use Rattle.calls_writer.specs.Fits.{amount-put}
 use Rattle.calls_writer.proofs.put_amount.Statement.{statement}
 use Rattle.calls_writer.proofs.put_amount.Tie as tie
-use Rattle.calls_writer.proofs.put_amount.Reads as reads
-use Rattle.calls_writer.proofs.put_amount.Lts as lts
-use Rattle.calls_writer.proofs.put_code.Reads as put-code-reads
-use Rattle.file_stores.proofs.put_number.Reads as put-number-reads
 
--- src/lib.rt:108:5
 put-code-requires : tie.Need-put-code-requires
 put-code-requires c κs = search needs
 
--- src/lib.rt:109:21
 add-put-number : tie.Need-add-put-number
 add-put-number c = search needs
 
--- src/lib.rt:109:5
 put-number-requires : tie.Need-put-number-requires
 put-number-requires c κs = search needs
 
--- src/lib.rt:110:21
 add-put-number-2 : tie.Need-add-put-number-2
 add-put-number-2 c = search needs
 
--- src/lib.rt:110:5
 put-number-requires-2 : tie.Need-put-number-requires-2
 put-number-requires-2 c κs = search needs
 
--- src/lib.rt:101:1
 same-length : tie.Need-same-length
 same-length c = search needs
 
--- src/lib.rt:101:1
 returns : tie.Need-returns
 returns c = search (amount-put, needs)
 

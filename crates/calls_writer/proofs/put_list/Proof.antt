@@ -6,9 +6,6 @@ use Rattle.file_format.specs.PutLaws.{put}
 use Rattle.calls_writer.specs.Listed.{first-listed, listed-none, listed-more, listed-done}
 use Rattle.calls_writer.proofs.put_list.Statement.{statement}
 use Rattle.calls_writer.proofs.put_list.Tie as tie
-use Rattle.calls_writer.proofs.put_list.Reads as reads
-use Rattle.calls_writer.proofs.put_list.Lts as lts
-use Rattle.calls_writer.proofs.put_withdrawal.Reads as put-withdrawal-reads
 
 abbrev Inv-loop : tie.InvT-loop
 Inv-loop out₀ k count list i₀ out i =
@@ -17,47 +14,36 @@ Inv-loop out₀ k count list i₀ out i =
 abbrev μ-loop : tie.MeasureT-loop
 μ-loop out₀ k count list i₀ out i = count - i
 
--- src/lib.rt:356:5
 loop-holds : tie.Need-loop-holds Inv-loop μ-loop
 loop-holds c = (search needs, search needs, listed-none _ _ _)
 
--- src/lib.rt:357:17
 mul-w : tie.Need-mul-w Inv-loop μ-loop
 mul-w c = search needs
 
--- src/lib.rt:357:17
 array-copy-out-w : tie.Need-array-copy-out-w Inv-loop μ-loop
 array-copy-out-w c = search needs
 
--- src/lib.rt:358:33
 mul-put-withdrawal : tie.Need-mul-put-withdrawal Inv-loop μ-loop
 mul-put-withdrawal c = search needs
 
--- src/lib.rt:358:29
 add-put-withdrawal : tie.Need-add-put-withdrawal Inv-loop μ-loop
 add-put-withdrawal c = search needs
 
--- src/lib.rt:358:9
 put-withdrawal-requires : tie.Need-put-withdrawal-requires Inv-loop μ-loop
 put-withdrawal-requires c κs = search needs
 
--- src/lib.rt:359:9
 add-i : tie.Need-add-i Inv-loop μ-loop
 add-i c = search needs
 
--- src/lib.rt:356:5
 loop-less : tie.Need-loop-less Inv-loop μ-loop
 loop-less c = search needs
 
--- src/lib.rt:356:5
 loop-again : tie.Need-loop-again Inv-loop μ-loop
 loop-again c = (search needs, search needs, search (listed-more, needs))
 
--- src/lib.rt:347:1
 same-length : tie.Need-same-length Inv-loop μ-loop
 same-length c = search needs
 
--- src/lib.rt:347:1
 returns : tie.Need-returns Inv-loop μ-loop
 returns c = search (listed-done, needs)
 

@@ -2,70 +2,49 @@ use borrow.Author.Needs.{needs}
 use Rattle.calls_writer.specs.Fits.{receipt-put}
 use Rattle.calls_writer.proofs.put_receipt.Statement.{statement}
 use Rattle.calls_writer.proofs.put_receipt.Tie as tie
-use Rattle.calls_writer.proofs.put_receipt.Reads as reads
-use Rattle.calls_writer.proofs.put_receipt.Lts as lts
-use Rattle.calls_writer.proofs.put_code.Reads as put-code-reads
-use Rattle.file_stores.proofs.put_field.Reads as put-field-reads
-use Rattle.file_stores.proofs.put_number.Reads as put-number-reads
-use Rattle.file_stores.proofs.put_signature.Reads as put-signature-reads
 
--- src/lib.rt:160:5
 put-code-requires : tie.Need-put-code-requires
 put-code-requires c κs = search needs
 
--- src/lib.rt:161:20
 add-put-field : tie.Need-add-put-field
 add-put-field c = search needs
 
--- src/lib.rt:161:27
 slice-aggregate-put-field : tie.Need-slice-aggregate-put-field
 slice-aggregate-put-field c = search needs
 
--- src/lib.rt:161:5
 put-field-requires : tie.Need-put-field-requires
 put-field-requires c κs = search needs
 
--- src/lib.rt:162:20
 add-put-field-2 : tie.Need-add-put-field-2
 add-put-field-2 c = search needs
 
--- src/lib.rt:162:28
 slice-aggregate-put-field-2 : tie.Need-slice-aggregate-put-field-2
 slice-aggregate-put-field-2 c = search needs
 
--- src/lib.rt:162:5
 put-field-requires-2 : tie.Need-put-field-requires-2
 put-field-requires-2 c κs = search needs
 
--- src/lib.rt:163:21
 add-put-number : tie.Need-add-put-number
 add-put-number c = search needs
 
--- src/lib.rt:163:5
 put-number-requires : tie.Need-put-number-requires
 put-number-requires c κs = search needs
 
--- src/lib.rt:164:21
 add-put-number-2 : tie.Need-add-put-number-2
 add-put-number-2 c = search needs
 
--- src/lib.rt:164:5
 put-number-requires-2 : tie.Need-put-number-requires-2
 put-number-requires-2 c κs = search needs
 
--- src/lib.rt:165:24
 add-put-signature : tie.Need-add-put-signature
 add-put-signature c = search needs
 
--- src/lib.rt:165:5
 put-signature-requires : tie.Need-put-signature-requires
 put-signature-requires c κs = search needs
 
--- src/lib.rt:144:1
 same-length : tie.Need-same-length
 same-length c = search needs
 
--- src/lib.rt:144:1
 returns : tie.Need-returns
 returns c =
     let flag = c .before .before in

@@ -2,44 +2,31 @@ use borrow.Author.Needs.{needs, length-unmapped}
 use Rattle.calls_writer.specs.Listed.{withdrawal-put}
 use Rattle.calls_writer.proofs.put_withdrawal.Statement.{statement}
 use Rattle.calls_writer.proofs.put_withdrawal.Tie as tie
-use Rattle.calls_writer.proofs.put_withdrawal.Reads as reads
-use Rattle.calls_writer.proofs.put_withdrawal.Lts as lts
-use Rattle.file_stores.proofs.put_field.Reads as put-field-reads
-use Rattle.file_stores.proofs.put_number.Reads as put-number-reads
 
--- src/lib.rt:340:5
 put-number-requires : tie.Need-put-number-requires
 put-number-requires c κs = search needs
 
--- src/lib.rt:341:21
 add-put-number : tie.Need-add-put-number
 add-put-number c = search needs
 
--- src/lib.rt:341:5
 put-number-requires-2 : tie.Need-put-number-requires-2
 put-number-requires-2 c κs = search needs
 
--- src/lib.rt:342:20
 add-put-field : tie.Need-add-put-field
 add-put-field c = search needs
 
--- src/lib.rt:342:5
 put-field-requires : tie.Need-put-field-requires
 put-field-requires c κs = search needs
 
--- src/lib.rt:343:21
 add-put-number-2 : tie.Need-add-put-number-2
 add-put-number-2 c = search needs
 
--- src/lib.rt:343:5
 put-number-requires-3 : tie.Need-put-number-requires-3
 put-number-requires-3 c κs = search needs
 
--- src/lib.rt:336:1
 same-length : tie.Need-same-length
 same-length c = search needs
 
--- src/lib.rt:336:1
 returns : tie.Need-returns
 returns c =
     let amount = c .before .before in
