@@ -79,7 +79,7 @@ bad-put out last k valid e f = rw e f
 -- ---- a loop over records of m words each
 
 module _ {A : Type 0} (write : A → List ℕ) where
-  each-append : (xs ys : List A) → each write (xs ++ ys) ≡ each write xs ++ each write ys
+  pub each-append : (xs ys : List A) → each write (xs ++ ys) ≡ each write xs ++ each write ys
   each-append [] ys = refl
   each-append (x ∷ xs) ys =
       ap (λ zs. write x ++ zs) (each-append xs ys) ∙ sym (append-assoc (write x) (each write xs) (each write ys))
@@ -214,7 +214,7 @@ field-done xs out last k i h l f =
 
 -- ---- the end word
 
-words-front : (ws rest : List ℕ) → words (bytes ws ++ rest) ≡ ws ++ words rest
+pub words-front : (ws rest : List ℕ) → words (bytes ws ++ rest) ≡ ws ++ words rest
 words-front [] rest = refl
 words-front (w ∷ ws) rest =
     let a = w % 256 in

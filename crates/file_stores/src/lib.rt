@@ -139,3 +139,11 @@ pub fn put_end(out: &mut [u8], n: usize)
     let sum = file_words::words_sum(out, n);
     put_word(out, n, 0x8000_0000 + sum % 0x1000_0000);
 }
+
+// ---- a whole file
+
+// What a writer of a file answers: the number of its cause, and how many bytes the file has.
+pub struct Written {
+    pub number: u8,
+    pub length: usize,
+}

@@ -1,0 +1,56 @@
+use borrow.Author.Needs.{needs}
+use Rattle.rules.specs.Calls.{deposit-receipt}
+use Rattle.calls_writer.specs.Fits.{Fits, receipt-fits}
+use Rattle.calls_writer.specs.Known.{array-bytes}
+use Rattle.calls_writer.specs.Opened.{open-place, open-room, added-refused}
+use Rattle.calls_writer.specs.Closed.{call-ready, added-done}
+use Rattle.calls_writer.proofs.add_deposit_receipt.Statement.{statement}
+use Rattle.calls_writer.proofs.add_deposit_receipt.Tie as tie
+
+-- the call can be written
+fine : (c : tie.Start)
+    → let a = c .args in
+    Fits (deposit-receipt (a .public-key) (a .withdrawal-credentials) (a .amount .0) (a .index) (a .valid)) 35
+fine c = search (receipt-fits, array-bytes, needs)
+
+open-requires : tie.Need-open-requires
+open-requires c κs = search needs
+
+same-length : tie.Need-same-length
+same-length c = search needs
+
+returns : tie.Need-returns
+returns c = search (added-refused, fine, needs)
+
+sub-k : tie.Need-sub-k
+sub-k c = search (open-place, needs)
+
+put-receipt-requires : tie.Need-put-receipt-requires
+put-receipt-requires c κs = search (open-room, needs)
+
+close-requires : tie.Need-close-requires
+close-requires c κs =
+    let stored = c .before .before .before in
+    let opened = stored .before .before in
+    let start = opened .before .before .before .before in
+    call-ready _ _ _ _ _ _ (opened .before .«open» .ensures) (opened .if1 .left) (fine start)
+    (stored .put-receipt .ensures)
+
+same-length-2 : tie.Need-same-length-2
+same-length-2 c = search needs
+
+returns-2 : tie.Need-returns-2
+returns-2 c = search (added-done, fine, needs)
+
+pub add-deposit-receipt-spec : {M : Type 1} → statement M
+add-deposit-receipt-spec =
+    tie.close
+    (tie.spec
+    open-requires
+    same-length
+    returns
+    sub-k
+    put-receipt-requires
+    close-requires
+    same-length-2
+    returns-2)

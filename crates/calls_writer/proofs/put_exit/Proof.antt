@@ -1,0 +1,45 @@
+use borrow.Author.Needs.{needs}
+use Rattle.calls_writer.specs.Fits.{exit-put}
+use Rattle.calls_writer.proofs.put_exit.Statement.{statement}
+use Rattle.calls_writer.proofs.put_exit.Tie as tie
+
+put-code-requires : tie.Need-put-code-requires
+put-code-requires c κs = search needs
+
+add-put-number : tie.Need-add-put-number
+add-put-number c = search needs
+
+put-number-requires : tie.Need-put-number-requires
+put-number-requires c κs = search needs
+
+add-put-number-2 : tie.Need-add-put-number-2
+add-put-number-2 c = search needs
+
+put-number-requires-2 : tie.Need-put-number-requires-2
+put-number-requires-2 c κs = search needs
+
+add-put-signature : tie.Need-add-put-signature
+add-put-signature c = search needs
+
+put-signature-requires : tie.Need-put-signature-requires
+put-signature-requires c κs = search needs
+
+same-length : tie.Need-same-length
+same-length c = search needs
+
+returns : tie.Need-returns
+returns c = search (exit-put, needs)
+
+pub put-exit-spec : {M : Type 1} → statement M
+put-exit-spec =
+    tie.close
+    (tie.spec
+    put-code-requires
+    add-put-number
+    put-number-requires
+    add-put-number-2
+    put-number-requires-2
+    add-put-signature
+    put-signature-requires
+    same-length
+    returns)

@@ -1,0 +1,9 @@
+pub mod Added
+pub mod Known
+pub mod Held
+pub mod Fits
+pub mod Listed
+pub mod Opened
+pub mod Closed
+pub mod Begun
+pub mod Theorems
