@@ -1,0 +1,55 @@
+use borrow.Author.Needs.{needs}
+use Rattle.solarbasil.proofs.total.solarbasil_total.Statement.{statement}
+use Rattle.solarbasil.proofs.total.solarbasil_total.Tie as tie
+use Rattle.solarbasil.proofs.total.solarbasil_total.Reads as reads
+use Rattle.solarbasil.proofs.total.solarbasil_total.Lts as lts
+use Rattle.electra.proofs.total.held.Reads as held-reads
+use Rattle.slices.proofs.scalars_fit.Reads as scalars-fit-reads
+use Rattle.slices.proofs.scalars_from.Reads as scalars-from-reads
+use Rattle.slices.proofs.settings_from.Reads as settings-from-reads
+use Rattle.slices.proofs.unfit_answer.Reads as unfit-answer-reads
+
+-- src/total.rt:36:9
+settings-from-requires : tie.Need-settings-from-requires
+settings-from-requires c κs = search needs
+
+-- src/total.rt:37:9
+scalars-fit-requires : tie.Need-scalars-fit-requires
+scalars-fit-requires c κs = search needs
+
+-- src/total.rt:38:9
+unfit-answer-requires : tie.Need-unfit-answer-requires
+unfit-answer-requires c κs = search needs
+
+-- src/total.rt:38:9
+returns : tie.Need-returns
+returns c = ?
+
+-- src/total.rt:40:9
+scalars-from-requires : tie.Need-scalars-from-requires
+scalars-from-requires c κs = ?
+
+-- src/total.rt:41:9
+held-requires : tie.Need-held-requires
+held-requires c κs = search needs
+
+-- src/total.rt:51:9
+returns-2 : tie.Need-returns-2
+returns-2 c = ?
+
+-- src/total.rt:11:1
+returns-3 : tie.Need-returns-3
+returns-3 c = ?
+
+pub solarbasil-total-spec : {M : Type 1} → statement M
+solarbasil-total-spec =
+    tie.close
+    (tie.spec
+    settings-from-requires
+    scalars-fit-requires
+    unfit-answer-requires
+    returns
+    scalars-from-requires
+    held-requires
+    returns-2
+    returns-3)
