@@ -6,9 +6,9 @@ use Prim.Native.Nat.{ℕ, _≤_}
 use native.Mathlib.Omega.{arith}
 use lib.Dec.{leb, eqb}
 use lib.ListN.{length, drop}
-use borrow.Author.Tests.{leb-true, eq-eqb, ne-eqb}
+use borrow.Author.Tests.{leb-true, eq-eqb, ne-eqb, not-true}
 use Rattle.lists.specs.Base.{if_then_else_, all}
-use Rattle.lists.specs.Laws.{both, if-true, if-false, by-test}
+use Rattle.lists.specs.Laws.{both, if-true, if-false, by-test, not-not}
 use Rattle.rules.specs.Types as rule
 use Rattle.rules.specs.Acceptance.{sound-settings}
 use Rattle.rules.specs.Calls.{Operation, handed-refusal}
@@ -50,44 +50,58 @@ asked-answer xs others t s =
 unfoldable pub given : {A : Type 0} → ℕ → A → A → A
 given n x old = if eqb n 0 then x else old
 
--- ---- laws
+-- ---- laws: f is the computed test of the slices' lengths
 
-module _ {xs : List ℕ} {op : Operation} {others : List Bool} {t : Tables} {s : List ℕ} {n : ℕ} where
-  pub exported-unfit : fit s others ≡ false → n ≡ unfit-answer (rules-in xs) → Exported xs op others t t s s n
-  exported-unfit e a = record {
-    called = λ f. absurd (false≢true (sym e ∙ f));
-    unfit = λ _. a;
+pub fit-true : {f g : Bool} → f ≡ g → not f ≡ false → g ≡ true
+fit-true {f} e n = sym e ∙ not-not f n
+
+pub fit-false : {f g : Bool} → f ≡ g → not f ≡ true → g ≡ false
+fit-false {f} e n = sym e ∙ not-true f n
+
+-- there is room for the scalars
+pub fit-room : {f : Bool} (s : List ℕ) (others : List Bool) → f ≡ fit s others → not f ≡ false → 13 ≤ length s
+unfolding all
+fit-room s others e n = leb-true 13 (length s) (both _ _ (fit-true e n) .0)
+
+module _ {xs : List ℕ} {op : Operation} {others : List Bool} {t : Tables} {s : List ℕ} {n : ℕ} {f : Bool}
+    {settings : Settings} where
+  pub exported-unfit : settings ≡ settings-in xs → f ≡ fit s others → not f ≡ true
+      → n ≡ unfit-answer (settings-of settings) → Exported xs op others t t s s n
+  exported-unfit e g z a = record {
+    called = λ h. absurd (false≢true (sym (fit-false g z) ∙ h));
+    unfit = λ _. rw e at a;
     past = refl;
     refused = λ _. (refl, refl);
   }
 
-  pub exported-called : {u : Tables} {r : List ℕ} {settings : Settings} {before after : Scalars}
-      → fit s others ≡ true → settings ≡ settings-in xs → before ≡ scalars-in s
+  pub exported-called : {u : Tables} {r : List ℕ} {before after : Scalars}
+      → settings ≡ settings-in xs → f ≡ fit s others → not f ≡ false → before ≡ scalars-in s
       → Called (settings-of settings) op before t u n after → r ≡ with-scalars s after
       → Exported xs op others t u s r n
-  unfolding all
-  exported-called {u} {r} {settings} {before} {after} f e b k w = record {
+  exported-called {u} {r} {before} {after} e g z b k w = record {
     called = λ _. rw (w, scalars-stored s after) promised;
-    unfit = λ g. absurd (false≢true (sym g ∙ f));
+    unfit = λ h. absurd (false≢true (sym h ∙ fit-true g z));
     past = rw w (past-stored s after);
-    refused = λ z.
-        let q = promised .refused z in
-        (w ∙ ap (with-scalars s) (q .0) ∙ stored-same s (leb-true 13 (length s) (both _ _ f .0)), q .1);
+    refused = λ y.
+        let q = promised .refused y in
+        (w ∙ ap (with-scalars s) (q .0) ∙ stored-same s (fit-room s others g z), q .1);
   }
     where
       promised : Called (rules-in xs) op (scalars-in s) t u n after
       promised = rw (e, b) at k
 
-module _ (xs : List ℕ) (others : List Bool) (t : Tables) (s : List ℕ) {n : ℕ} where
-  pub asked-unfit : fit s others ≡ false → n ≡ unfit-answer (rules-in xs) → n ≡ asked-answer xs others t s
+-- calls that alter no books
+module _ (xs : List ℕ) (others : List Bool) (t : Tables) (s : List ℕ) {n : ℕ} {f : Bool} {settings : Settings} where
+  pub asked-unfit : settings ≡ settings-in xs → f ≡ fit s others → not f ≡ true
+      → n ≡ unfit-answer (settings-of settings) → n ≡ asked-answer xs others t s
   unfolding asked-answer
-  asked-unfit f a = a ∙ sym (if-false _ _ _ f)
+  asked-unfit e g z a = (rw e at a) ∙ sym (if-false _ _ _ (fit-false g z))
 
-  pub asked-fit : {settings : Settings} {before : Scalars}
-      → fit s others ≡ true → settings ≡ settings-in xs → before ≡ scalars-in s
-      → n ≡ handed-refusal (settings-of settings) (books-of before t) (room-of t) → n ≡ asked-answer xs others t s
+  pub asked-fit : {before : Scalars} → settings ≡ settings-in xs → f ≡ fit s others → not f ≡ false
+      → before ≡ scalars-in s → n ≡ handed-refusal (settings-of settings) (books-of before t) (room-of t)
+      → n ≡ asked-answer xs others t s
   unfolding asked-answer
-  asked-fit {settings} {before} f e b a = rw (e, b) at a ∙ sym (if-true _ _ _ f)
+  asked-fit e g z b a = (rw (e, b) at a) ∙ sym (if-true _ _ _ (fit-true g z))
 
 -- the number of a slice of a wrong length
 pub sound-unfit : (S : rule.Settings) → sound-settings S ≡ true → 3 ≡ unfit-answer S

@@ -1,4 +1,9 @@
+use mathlib.Core.Path.{sym, _∙_}
+use mathlib.Core.List.{[]}
 use borrow.Author.Needs.{needs}
+use Rattle.records.specs.Books.{tables}
+use Rattle.slices.specs.Exported.{fit-room, asked-unfit, asked-fit, unfit-refused, given-refused}
+use Rattle.solarbasil.specs.Total.{total-done}
 use Rattle.solarbasil.proofs.total.solarbasil_total.Statement.{statement}
 use Rattle.solarbasil.proofs.total.solarbasil_total.Tie as tie
 use Rattle.solarbasil.proofs.total.solarbasil_total.Reads as reads
@@ -23,11 +28,25 @@ unfit-answer-requires c κs = search needs
 
 -- src/total.rt:38:9
 returns : tie.Need-returns
-returns c = ?
+returns c = (
+  asked-unfit (c .before .before .before .before .before .before .before .before .before .before .before .args
+      .settings .now) [] (tables (c .before .before .before .before .before .before .before .before .before .before
+      .before .args .identities .now) (c .before .before .before .before .before .before .before .before .before
+      .before .before .args .validators .now) (c .before .before .before .before .before .before .before .before
+      .before .before .before .args .deposits .now) (c .before .before .before .before .before .before .before .before
+      .before .before .before .args .partials .now) (c .before .before .before .before .before .before .before .before
+      .before .before .before .args .consolidations .now)) (c .before .before .before .before .before .before .before
+      .before .before .before .before .args .scalars .now) (c .before .before .before .settings-from .ensures) (c
+      .before .before .scalars-fit .ensures) (c .before .if1 .taken) (c .unfit-answer .ensures),
+  given-refused _ (λ e.
+      unfit-refused _ (sym (c .unfit-answer .ensures) ∙ e)),
+)
 
 -- src/total.rt:40:9
 scalars-from-requires : tie.Need-scalars-from-requires
-scalars-from-requires c κs = ?
+scalars-from-requires c κs =
+    fit-room (c .before .before .before .before .before .before .before .before .before .before .args .scalars .now)
+    [] (c .before .scalars-fit .ensures) (c .if1 .left)
 
 -- src/total.rt:41:9
 held-requires : tie.Need-held-requires
@@ -35,11 +54,49 @@ held-requires c κs = search needs
 
 -- src/total.rt:51:9
 returns-2 : tie.Need-returns-2
-returns-2 c = ?
+returns-2 c = (
+  asked-fit (c .before .before .before .before .before .before .before .before .before .before .before .before
+      .before .before .args .settings .now) [] (tables (c .before .before .before .before .before .before .before
+      .before .before .before .before .before .before .before .args .identities .now) (c .before .before .before
+      .before .before .before .before .before .before .before .before .before .before .before .args .validators .now)
+      (c .before .before .before .before .before .before .before .before .before .before .before .before .before
+      .before .args .deposits .now) (c .before .before .before .before .before .before .before .before .before .before
+      .before .before .before .before .args .partials .now) (c .before .before .before .before .before .before .before
+      .before .before .before .before .before .before .before .args .consolidations .now)) (c .before .before .before
+      .before .before .before .before .before .before .before .before .before .before .before .args .scalars .now) (c
+      .before .before .before .before .before .before .settings-from .ensures) (c .before .before .before .before
+      .before .scalars-fit .ensures) (c .before .before .before .before .if1 .left) (c .before .before .before
+      .scalars-from .ensures) (c .before .before .held .ensures .0),
+  given-refused _ (c .if2 .taken),
+)
 
 -- src/total.rt:11:1
 returns-3 : tie.Need-returns-3
-returns-3 c = ?
+returns-3 c = (
+  asked-fit (c .before .before .before .before .before .before .before .before .before .before .before .before
+      .before .before .args .settings .now) [] (tables (c .before .before .before .before .before .before .before
+      .before .before .before .before .before .before .before .args .identities .now) (c .before .before .before
+      .before .before .before .before .before .before .before .before .before .before .before .args .validators .now)
+      (c .before .before .before .before .before .before .before .before .before .before .before .before .before
+      .before .args .deposits .now) (c .before .before .before .before .before .before .before .before .before .before
+      .before .before .before .before .args .partials .now) (c .before .before .before .before .before .before .before
+      .before .before .before .before .before .before .before .args .consolidations .now)) (c .before .before .before
+      .before .before .before .before .before .before .before .before .before .before .before .args .scalars .now) (c
+      .before .before .before .before .before .before .settings-from .ensures) (c .before .before .before .before
+      .before .scalars-fit .ensures) (c .before .before .before .before .if1 .left) (c .before .before .before
+      .scalars-from .ensures) (c .before .before .held .ensures .0),
+  total-done _ (tables (c .before .before .before
+      .before .before .before .before .before .before .before .before .before .before .before .args .identities .now)
+      (c .before .before .before .before .before .before .before .before .before .before .before .before .before
+      .before .args .validators .now) (c .before .before .before .before .before .before .before .before .before
+      .before .before .before .before .before .args .deposits .now) (c .before .before .before .before .before .before
+      .before .before .before .before .before .before .before .before .args .partials .now) (c .before .before .before
+      .before .before .before .before .before .before .before .before .before .before .before .args .consolidations
+      .now)) (c .before .before .before .before .before .before .before .before .before .before .before .before
+      .before .before .args .scalars .now) _ (c .before .before .before .before .before .before .before .before
+      .before .before .before .before .before .before .args .total .now) (c .before .before .before .scalars-from
+      .ensures) (c .before .before .held .ensures .0) (c .if2 .left) (c .before .before .held .ensures .1),
+)
 
 pub solarbasil-total-spec : {M : Type 1} → statement M
 solarbasil-total-spec =
