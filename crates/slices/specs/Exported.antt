@@ -1,14 +1,14 @@
 -- What an exported call promises: `Called` of the settings and scalars that its slices hold.
 use mathlib.Core.Path.{_≡_, refl, ap, sym, _∙_}
-use mathlib.Core.Bool.{Bool, true, false, false≢true, not}
-use mathlib.Core.List.{List, _∷_}
-use Prim.Native.Nat.{ℕ, _≤_}
+use mathlib.Core.Bool.{Bool, true, false, false≢true, not, _&&_}
+use mathlib.Core.List.{List, [], _∷_}
+use Prim.Native.Nat.{ℕ, suc, _≤_}
 use native.Mathlib.Omega.{arith}
 use lib.Dec.{leb, eqb}
-use lib.ListN.{length, drop}
+use lib.ListN.{length, getD, drop}
 use borrow.Author.Tests.{leb-true, eq-eqb, ne-eqb, not-true}
 use Rattle.lists.specs.Base.{if_then_else_, all}
-use Rattle.lists.specs.Laws.{both, if-true, if-false, by-test, not-not}
+use Rattle.lists.specs.Laws.{both, if-true, if-false, by-test, not-not, nth, and-true}
 use Rattle.rules.specs.Types as rule
 use Rattle.rules.specs.Acceptance.{sound-settings}
 use Rattle.rules.specs.Calls.{Operation, handed-refusal}
@@ -58,10 +58,21 @@ fit-true {f} e n = sym e ∙ not-not f n
 pub fit-false : {f g : Bool} → f ≡ g → not f ≡ true → g ≡ false
 fit-false {f} e n = sym e ∙ not-true f n
 
+pub fit-three : (a b c : Bool) → ((a && b) && c) ≡ all (a ∷ b ∷ c ∷ [])
+unfolding all
+fit-three true true c = sym (and-true c)
+fit-three true false c = refl
+fit-three false b c = refl
+
 -- there is room for the scalars
 pub fit-room : {f : Bool} (s : List ℕ) (others : List Bool) → f ≡ fit s others → not f ≡ false → 13 ≤ length s
 unfolding all
 fit-room s others e n = leb-true 13 (length s) (both _ _ (fit-true e n) .0)
+
+-- the other slices pass their tests
+pub fit-test : {f : Bool} (s : List ℕ) (others : List Bool) → f ≡ fit s others → not f ≡ false
+    → (k : ℕ) → getD others k true ≡ true
+fit-test s others e n k = nth (leb 13 (length s) ∷ others) (fit-true e n) (suc k)
 
 module _ {xs : List ℕ} {op : Operation} {others : List Bool} {t : Tables} {s : List ℕ} {n : ℕ} {f : Bool}
     {settings : Settings} where
@@ -89,6 +100,11 @@ module _ {xs : List ℕ} {op : Operation} {others : List Bool} {t : Tables} {s :
     where
       promised : Called (rules-in xs) op (scalars-in s) t u n after
       promised = rw (e, b) at k
+
+-- the same operation, given in another way
+pub called-as : {S : rule.Settings} {o op : Operation} {t u : Tables} {n : ℕ} {r s : Scalars} → o ≡ op
+    → Called S o s t u n r → Called S op s t u n r
+called-as e k = rw e at k
 
 -- calls that alter no books
 module _ (xs : List ℕ) (others : List Bool) (t : Tables) (s : List ℕ) {n : ℕ} {f : Bool} {settings : Settings} where

@@ -1,4 +1,5 @@
 // Settings, scalars, keys and addresses as plain slices, for calls from other languages.
+pub mod bytes; // keys, credentials, addresses
 pub mod withdrawals; // lists of withdrawals
 
 use primitives::Epoch;
