@@ -1,21 +1,27 @@
+use mathlib.Core.Path.{ap, _∙_}
+use Rattle.slices.specs.Exported.{given-refused, given-done}
 use borrow.Author.Needs.{needs}
+use Rattle.solarbasil.specs.Assignment.{assignment-done}
 use Rattle.solarbasil.proofs.assignment.solarbasil_epoch_assignment.Statement.{statement}
 use Rattle.solarbasil.proofs.assignment.solarbasil_epoch_assignment.Tie as tie
-use Rattle.solarbasil.proofs.assignment.solarbasil_epoch_assignment.Reads as reads
-use Rattle.solarbasil.proofs.assignment.solarbasil_epoch_assignment.Lts as lts
-use Rattle.helpers.proofs.assignment.epoch_assignment.Reads as epoch-assignment-reads
 
--- src/assignment.rt:31:9
 epoch-assignment-requires : tie.Need-epoch-assignment-requires
 epoch-assignment-requires c κs = search needs
 
--- src/assignment.rt:39:9
 returns : tie.Need-returns
-returns c = ?
+returns c =
+    ((c .before .before .epoch-assignment .ensures) .0, given-refused _ (c .if1 .taken), given-refused _ (c .if1
+    .taken))
 
--- src/assignment.rt:11:1
 returns-2 : tie.Need-returns-2
-returns-2 c = ?
+returns-2 c =
+    let z = c .before .if1 .left in
+    let h = (c .before .before .before .epoch-assignment .ensures) in
+    let e = assignment-done (c .before .before .before .before .args .left) (c .before .before .before .before .args
+    .earliest) (c .before .before .before .before .args .«activation_exit») (c .before .before .before .before .args
+    .churn) (c .before .before .before .before .args .amount) (h .0) z (h .1) in (
+      h .0, ap (λ a. a .left) e ∙ given-done (c .before .before .before .before .args .«left_after» .now) z,
+      ap (λ a. a .epoch) e ∙ given-done (c .before .before .before .before .args .epoch .now) z)
 
 pub solarbasil-epoch-assignment-spec : {M : Type 1} → statement M
 solarbasil-epoch-assignment-spec = tie.close (tie.spec epoch-assignment-requires returns returns-2)

@@ -1,81 +1,198 @@
+use mathlib.Core.Path.{ap, sym, _∙_}
+use mathlib.Core.List.{[], _∷_}
+use lib.Dec.{leb}
+use lib.ListN.{length}
+use borrow.Author.Tests.{leb-true}
+use Rattle.records.specs.Books.{tables}
+use Rattle.slices.specs.Exported.{fit-room, fit-test, asked-unfit, asked-fit, unfit-refused}
+use Rattle.slices.specs.Exported.{given-refused, given-done}
+use Rattle.slices.specs.Withdrawals.{with-records, with-addresses}
 use borrow.Author.Needs.{needs}
+use Rattle.solarbasil.specs.Expected.{expected-done}
 use Rattle.solarbasil.proofs.expected.solarbasil_get_expected_withdrawals.Statement.{
   statement,
 }
 use Rattle.solarbasil.proofs.expected.solarbasil_get_expected_withdrawals.Tie as tie
-use Rattle.solarbasil.proofs.expected.solarbasil_get_expected_withdrawals.Reads as reads
-use Rattle.solarbasil.proofs.expected.solarbasil_get_expected_withdrawals.Lts as lts
-use Rattle.operations.proofs.expected.get_expected_withdrawals.Reads as get-expected-withdrawals-reads
-use Rattle.slices.proofs.scalars_from.Reads as scalars-from-reads
-use Rattle.slices.proofs.settings_from.Reads as settings-from-reads
-use Rattle.slices.proofs.unfit_answer.Reads as unfit-answer-reads
-use Rattle.slices.proofs.withdrawals.expected_fit.Reads as expected-fit-reads
-use Rattle.slices.proofs.withdrawals.store_addresses.Reads as store-addresses-reads
-use Rattle.slices.proofs.withdrawals.store_records.Reads as store-records-reads
 
--- src/expected.rt:64:9
 settings-from-requires : tie.Need-settings-from-requires
 settings-from-requires c κs = search needs
 
--- src/expected.rt:65:9
 expected-fit-requires : tie.Need-expected-fit-requires
 expected-fit-requires c κs = search needs
 
--- src/expected.rt:66:9
 unfit-answer-requires : tie.Need-unfit-answer-requires
 unfit-answer-requires c κs = search needs
 
--- src/expected.rt:66:9
 same-length : tie.Need-same-length
 same-length c = search needs
 
--- src/expected.rt:66:9
 same-length-2 : tie.Need-same-length-2
 same-length-2 c = search needs
 
--- src/expected.rt:66:9
 returns : tie.Need-returns
-returns c = ?
+returns c =
+    let z = λ e. unfit-refused _ (sym (c .unfit-answer .ensures) ∙ e) in (
+      asked-unfit (c .before .before .before .before .before .before .before .before .before .before .before .before
+    .before .before .before .args .settings .now) (leb 48 (length (c .before .before .before .before .before .before
+    .before .before .before .before .before .before .before .before .before .args .records .now)) ∷ leb 320 (length
+    (c .before .before .before .before .before .before .before .before .before .before .before .before .before
+    .before .before .args .addresses .now)) ∷ []) (tables (c .before .before .before .before .before .before .before
+    .before .before .before .before .before .before .before .before .args .identities .now) (c .before .before
+    .before .before .before .before .before .before .before .before .before .before .before .before .before .args
+    .validators .now) (c .before .before .before .before .before .before .before .before .before .before .before
+    .before .before .before .before .args .deposits .now) (c .before .before .before .before .before .before .before
+    .before .before .before .before .before .before .before .before .args .partials .now) (c .before .before .before
+    .before .before .before .before .before .before .before .before .before .before .before .before .args
+    .consolidations .now)) (c .before .before .before .before .before .before .before .before .before .before
+    .before .before .before .before .before .args .scalars .now) (c .before .before .before .before .before
+    .settings-from .ensures) (c .before .before .expected-fit .ensures) (c .before .if1 .taken) (c .unfit-answer
+    .ensures),
+      given-refused _ z, given-refused _ z, given-refused _ z, given-refused _ z)
 
--- src/expected.rt:68:9
 scalars-from-requires : tie.Need-scalars-from-requires
-scalars-from-requires c κs = ?
+scalars-from-requires c κs =
+    fit-room (c .before .before .before .before .before .before .before .before .before .before .before .before
+    .before .before .args .scalars .now) (leb 48 (length (c .before .before .before .before .before .before .before
+    .before .before .before .before .before .before .before .args .records .now)) ∷ leb 320 (length (c .before
+    .before .before .before .before .before .before .before .before .before .before .before .before .before .args
+    .addresses .now)) ∷ []) (c .before .expected-fit .ensures) (c .if1 .left)
 
--- src/expected.rt:69:9
 get-expected-withdrawals-requires : tie.Need-get-expected-withdrawals-requires
 get-expected-withdrawals-requires c κs = search needs
 
--- src/expected.rt:79:9
 same-length-3 : tie.Need-same-length-3
 same-length-3 c = search needs
 
--- src/expected.rt:79:9
 same-length-4 : tie.Need-same-length-4
 same-length-4 c = search needs
 
--- src/expected.rt:79:9
 returns-2 : tie.Need-returns-2
-returns-2 c = ?
+returns-2 c =
+    let z = c .if2 .taken in (
+      asked-fit (c .before .before .before .before .before .before .before .before .before .before .before .before
+    .before .before .before .before .before .before .args .settings .now) (leb 48 (length (c .before .before .before
+    .before .before .before .before .before .before .before .before .before .before .before .before .before .before
+    .before .args .records .now)) ∷ leb 320 (length (c .before .before .before .before .before .before .before
+    .before .before .before .before .before .before .before .before .before .before .before .args .addresses .now))
+    ∷ []) (tables (c .before .before .before .before .before .before .before .before .before .before .before .before
+    .before .before .before .before .before .before .args .identities .now) (c .before .before .before .before
+    .before .before .before .before .before .before .before .before .before .before .before .before .before .before
+    .args .validators .now) (c .before .before .before .before .before .before .before .before .before .before
+    .before .before .before .before .before .before .before .before .args .deposits .now) (c .before .before .before
+    .before .before .before .before .before .before .before .before .before .before .before .before .before .before
+    .before .args .partials .now) (c .before .before .before .before .before .before .before .before .before .before
+    .before .before .before .before .before .before .before .before .args .consolidations .now)) (c .before .before
+    .before .before .before .before .before .before .before .before .before .before .before .before .before .before
+    .before .before .args .scalars .now) (c .before .before .before .before .before .before .before .before
+    .settings-from .ensures) (c .before .before .before .before .before .expected-fit .ensures) (c .before .before
+    .before .before .if1 .left) (c .before .before .before .scalars-from .ensures) (c .before .before
+    .get-expected-withdrawals .ensures .0),
+      given-refused _ z, given-refused _ z, given-refused _ z, given-refused _ z)
 
--- src/expected.rt:83:5
 store-records-requires : tie.Need-store-records-requires
-store-records-requires c κs = ?
+store-records-requires c κs =
+    leb-true 48 (length (c .before .before .before .before .before .before .before .before .before .before .before
+    .before .before .before .before .before .before .before .before .before .before .args .records .now)) (fit-test
+    (c .before .before .before .before .before .before .before .before .before .before .before .before .before
+    .before .before .before .before .before .before .before .before .args .scalars .now) (leb 48 (length (c .before
+    .before .before .before .before .before .before .before .before .before .before .before .before .before .before
+    .before .before .before .before .before .before .args .records .now)) ∷ leb 320 (length (c .before .before
+    .before .before .before .before .before .before .before .before .before .before .before .before .before .before
+    .before .before .before .before .before .args .addresses .now)) ∷ []) (c .before .before .before .before .before
+    .before .before .before .expected-fit .ensures) (c .before .before .before .before .before .before .before .if1
+    .left) 0)
 
--- src/expected.rt:84:5
 store-addresses-requires : tie.Need-store-addresses-requires
-store-addresses-requires c κs = ?
+store-addresses-requires c κs =
+    leb-true 320 (length (c .before .before .before .before .before .before .before .before .before .before .before
+    .before .before .before .before .before .before .before .before .before .before .before .before .before .before
+    .args .addresses .now)) (fit-test (c .before .before .before .before .before .before .before .before .before
+    .before .before .before .before .before .before .before .before .before .before .before .before .before .before
+    .before .before .args .scalars .now) (leb 48 (length (c .before .before .before .before .before .before .before
+    .before .before .before .before .before .before .before .before .before .before .before .before .before .before
+    .before .before .before .before .args .records .now)) ∷ leb 320 (length (c .before .before .before .before
+    .before .before .before .before .before .before .before .before .before .before .before .before .before .before
+    .before .before .before .before .before .before .before .args .addresses .now)) ∷ []) (c .before .before .before
+    .before .before .before .before .before .before .before .before .before .expected-fit .ensures) (c .before
+    .before .before .before .before .before .before .before .before .before .before .if1 .left) 1)
 
--- src/expected.rt:14:1
 same-length-5 : tie.Need-same-length-5
 same-length-5 c = search needs
 
--- src/expected.rt:14:1
 same-length-6 : tie.Need-same-length-6
 same-length-6 c = search needs
 
--- src/expected.rt:14:1
 returns-3 : tie.Need-returns-3
-returns-3 c = ?
+returns-3 c =
+    let z = c .before .before .before .before .before .before .before .before .before .before .if2 .left in
+    let e = expected-done _ (c .before .before .before .before .before .before .before .before .before .before
+    .before .before .before .before .before .before .before .before .before .before .before .before .before .before
+    .before .before .before .before .args .settings .now) (tables (c .before .before .before .before .before .before
+    .before .before .before .before .before .before .before .before .before .before .before .before .before .before
+    .before .before .before .before .before .before .before .before .args .identities .now) (c .before .before
+    .before .before .before .before .before .before .before .before .before .before .before .before .before .before
+    .before .before .before .before .before .before .before .before .before .before .before .before .args
+    .validators .now) (c .before .before .before .before .before .before .before .before .before .before .before
+    .before .before .before .before .before .before .before .before .before .before .before .before .before .before
+    .before .before .before .args .deposits .now) (c .before .before .before .before .before .before .before .before
+    .before .before .before .before .before .before .before .before .before .before .before .before .before .before
+    .before .before .before .before .before .before .args .partials .now) (c .before .before .before .before .before
+    .before .before .before .before .before .before .before .before .before .before .before .before .before .before
+    .before .before .before .before .before .before .before .before .before .args .consolidations .now)) (c .before
+    .before .before .before .before .before .before .before .before .before .before .before .before .before .before
+    .before .before .before .before .before .before .before .before .before .before .before .before .before .args
+    .scalars .now) _ (c .before .before .before .before .before .before .before .before .before .before .before
+    .before .before .before .before .before .before .before .settings-from .ensures) (c .before .before .before
+    .before .before .before .before .before .before .before .before .before .before .scalars-from .ensures) (c
+    .before .before .before .before .before .before .before .before .before .before .before .before
+    .get-expected-withdrawals .ensures .0) z (c .before .before .before .before .before .before .before .before
+    .before .before .before .before .get-expected-withdrawals .ensures .1) in (
+      asked-fit (c .before .before .before .before .before .before .before .before .before .before .before .before
+    .before .before .before .before .before .before .before .before .before .before .before .before .before .before
+    .before .before .args .settings .now) (leb 48 (length (c .before .before .before .before .before .before .before
+    .before .before .before .before .before .before .before .before .before .before .before .before .before .before
+    .before .before .before .before .before .before .before .args .records .now)) ∷ leb 320 (length (c .before
+    .before .before .before .before .before .before .before .before .before .before .before .before .before .before
+    .before .before .before .before .before .before .before .before .before .before .before .before .before .args
+    .addresses .now)) ∷ []) (tables (c .before .before .before .before .before .before .before .before .before
+    .before .before .before .before .before .before .before .before .before .before .before .before .before .before
+    .before .before .before .before .before .args .identities .now) (c .before .before .before .before .before
+    .before .before .before .before .before .before .before .before .before .before .before .before .before .before
+    .before .before .before .before .before .before .before .before .before .args .validators .now) (c .before
+    .before .before .before .before .before .before .before .before .before .before .before .before .before .before
+    .before .before .before .before .before .before .before .before .before .before .before .before .before .args
+    .deposits .now) (c .before .before .before .before .before .before .before .before .before .before .before
+    .before .before .before .before .before .before .before .before .before .before .before .before .before .before
+    .before .before .before .args .partials .now) (c .before .before .before .before .before .before .before .before
+    .before .before .before .before .before .before .before .before .before .before .before .before .before .before
+    .before .before .before .before .before .before .args .consolidations .now)) (c .before .before .before .before
+    .before .before .before .before .before .before .before .before .before .before .before .before .before .before
+    .before .before .before .before .before .before .before .before .before .before .args .scalars .now) (c .before
+    .before .before .before .before .before .before .before .before .before .before .before .before .before .before
+    .before .before .before .settings-from .ensures) (c .before .before .before .before .before .before .before
+    .before .before .before .before .before .before .before .before .expected-fit .ensures) (c .before .before
+    .before .before .before .before .before .before .before .before .before .before .before .before .if1 .left) (c
+    .before .before .before .before .before .before .before .before .before .before .before .before .before
+    .scalars-from .ensures) (c .before .before .before .before .before .before .before .before .before .before
+    .before .before .get-expected-withdrawals .ensures .0),
+      ((c .before .before .before .before .before .before .store-records .ensures) ∙ ap (λ w. with-records (c
+    .before .before .before .before .before .before .before .before .before .before .before .before .before .before
+    .before .before .before .before .before .before .before .before .before .before .before .before .before .before
+    .args .records .now) (w .list)) e) ∙ given-done (c .before .before .before .before .before .before .before
+    .before .before .before .before .before .before .before .before .before .before .before .before .before .before
+    .before .before .before .before .before .before .before .args .records .now) z,
+      ((c .before .before .store-addresses .ensures) ∙ ap (λ w. with-addresses (c .before .before .before .before
+    .before .before .before .before .before .before .before .before .before .before .before .before .before .before
+    .before .before .before .before .before .before .before .before .before .before .args .addresses .now) (w
+    .list)) e) ∙ given-done (c .before .before .before .before .before .before .before .before .before .before
+    .before .before .before .before .before .before .before .before .before .before .before .before .before .before
+    .before .before .before .before .args .addresses .now) z,
+      ap (λ w. w .count) e ∙ given-done (c .before .before .before .before .before .before .before .before .before
+    .before .before .before .before .before .before .before .before .before .before .before .before .before .before
+    .before .before .before .before .before .args .count .now) z,
+      ap (λ w. w .partials) e ∙ given-done (c .before .before .before .before .before .before .before .before
+    .before .before .before .before .before .before .before .before .before .before .before .before .before .before
+    .before .before .before .before .before .before .args .«partial_count» .now) z)
 
 pub solarbasil-get-expected-withdrawals-spec : {M : Type 1} → statement M
 solarbasil-get-expected-withdrawals-spec =
