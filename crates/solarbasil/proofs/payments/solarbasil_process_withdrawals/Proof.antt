@@ -1,5 +1,6 @@
 use mathlib.Core.Path.{ap}
-use mathlib.Core.List.{[], _∷_}
+use mathlib.Core.Bool.{Bool}
+use mathlib.Core.List.{List, [], _∷_}
 use Prim.Native.Nat.{_/_}
 use lib.Dec.{leb}
 use lib.ListN.{length}
@@ -9,6 +10,13 @@ use Rattle.slices.specs.Exported.{fit-room, exported-unfit, exported-called, ca
 use borrow.Author.Needs.{needs}
 use Rattle.solarbasil.proofs.payments.solarbasil_process_withdrawals.Statement.{statement}
 use Rattle.solarbasil.proofs.payments.solarbasil_process_withdrawals.Tie as tie
+
+-- the tests of the other slices
+abbrev others : tie.Start → List Bool
+others s =
+    leb (s .args .count) (length (s .args .records .now) / 3)
+    ∷ leb (s .args .count) (length (s .args .addresses .now) / 20)
+    ∷ []
 
 settings-from-requires : tie.Need-settings-from-requires
 settings-from-requires c κs = search needs
@@ -29,14 +37,9 @@ returns c =
 
 scalars-from-requires : tie.Need-scalars-from-requires
 scalars-from-requires c κs =
-    fit-room (c .before .before .before .before .before .before .before .before .before .before .before .before
-    .before .before .args .scalars .now) (leb (c .before .before .before .before .before .before .before .before
-    .before .before .before .before .before .before .args .count) (length (c .before .before .before .before .before
-    .before .before .before .before .before .before .before .before .before .args .records .now) / 3) ∷ leb (c
-    .before .before .before .before .before .before .before .before .before .before .before .before .before .before
-    .args .count) (length (c .before .before .before .before .before .before .before .before .before .before .before
-    .before .before .before .args .addresses .now) / 20) ∷ []) (c .before .before .handed-fit .ensures) (c .before
-    .if1 .left)
+    let s = c .before .before .before .before .before .before .before .before .before .before .before .before
+    .before .before in
+    fit-room (s .args .scalars .now) (others s) (c .before .before .handed-fit .ensures) (c .before .if1 .left)
 
 withdrawals-from-requires : tie.Need-withdrawals-from-requires
 withdrawals-from-requires c κs = search needs
@@ -46,19 +49,11 @@ process-withdrawals-requires c κs = search needs
 
 store-scalars-requires : tie.Need-store-scalars-requires
 store-scalars-requires c κs =
-    fit-room (c .before .before .before .before .before .before .before .before .before .before .before .before
-    .before .before .before .before .before .before .before .before .before .before .before .before .before .args
-    .scalars .now) (leb (c .before .before .before .before .before .before .before .before .before .before .before
-    .before .before .before .before .before .before .before .before .before .before .before .before .before .before
-    .args .count) (length (c .before .before .before .before .before .before .before .before .before .before .before
-    .before .before .before .before .before .before .before .before .before .before .before .before .before .before
-    .args .records .now) / 3) ∷ leb (c .before .before .before .before .before .before .before .before .before
-    .before .before .before .before .before .before .before .before .before .before .before .before .before .before
-    .before .before .args .count) (length (c .before .before .before .before .before .before .before .before .before
-    .before .before .before .before .before .before .before .before .before .before .before .before .before .before
-    .before .before .args .addresses .now) / 20) ∷ []) (c .before .before .before .before .before .before .before
-    .before .before .before .before .before .before .handed-fit .ensures) (c .before .before .before .before .before
-    .before .before .before .before .before .before .before .if1 .left)
+    let s = c .before .before .before .before .before .before .before .before .before .before .before .before
+    .before .before .before .before .before .before .before .before .before .before .before .before .before in
+    fit-room (s .args .scalars .now) (others s) (c .before .before .before .before .before .before .before .before
+    .before .before .before .before .before .handed-fit .ensures) (c .before .before .before .before .before .before
+    .before .before .before .before .before .before .if1 .left)
 
 same-length-2 : tie.Need-same-length-2
 same-length-2 c = search needs
@@ -71,17 +66,18 @@ same-length-4 c = search needs
 
 returns-2 : tie.Need-returns-2
 returns-2 c =
+    let s = c .before .before .before .before .before .before .before .before .before .before .before .before
+    .before .before .before .before .before .before .before .before .before .before .before .before .before .before
+    .before .before in
     exported-called (c .before .before .before .before .before .before .before .before .before .before .before
     .before .before .before .before .before .before .before .settings-from .ensures) (c .before .before .before
     .before .before .before .before .before .before .before .before .before .before .before .before .before
     .handed-fit .ensures) (c .before .before .before .before .before .before .before .before .before .before .before
     .before .before .before .before .if1 .left) (c .before .before .before .before .before .before .before .before
     .before .before .before .before .before .scalars-from .ensures) (called-as (ap (λ l. withdrawals (handed-list l
-    (c .before .before .before .before .before .before .before .before .before .before .before .before .before
-    .before .before .before .before .before .before .before .before .before .before .before .before .before .before
-    .before .args .count))) (c .before .before .before .before .before .before .before .before .before .before
-    .before .before .withdrawals-from .ensures)) (c .before .before .before .before .before .before .before .before
-    .before .process-withdrawals .ensures)) (c .before .before .store-scalars .ensures)
+    (s .args .count))) (c .before .before .before .before .before .before .before .before .before .before .before
+    .before .withdrawals-from .ensures)) (c .before .before .before .before .before .before .before .before .before
+    .process-withdrawals .ensures)) (c .before .before .store-scalars .ensures)
 
 pub solarbasil-process-withdrawals-spec : {M : Type 1} → statement M
 solarbasil-process-withdrawals-spec =

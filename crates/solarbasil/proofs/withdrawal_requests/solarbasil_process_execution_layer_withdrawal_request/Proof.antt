@@ -1,15 +1,18 @@
 use mathlib.Core.Path.{ap₂}
-use mathlib.Core.List.{[], _∷_}
+use mathlib.Core.Bool.{Bool}
+use mathlib.Core.List.{List, [], _∷_}
 use lib.Dec.{eqb}
 use lib.ListN.{length}
 use borrow.Author.Tests.{eqb-true}
 use Rattle.rules.specs.Calls.{withdrawal-request}
 use Rattle.slices.specs.Exported.{fit-room, fit-test, exported-unfit, exported-called, called-as}
 use borrow.Author.Needs.{needs}
-use Rattle.solarbasil.proofs.withdrawal_requests.solarbasil_process_execution_layer_withdrawal_request.Statement.{
-  statement,
-}
+use Rattle.solarbasil.proofs.withdrawal_requests.solarbasil_process_execution_layer_withdrawal_request.Statement.{statement}
 use Rattle.solarbasil.proofs.withdrawal_requests.solarbasil_process_execution_layer_withdrawal_request.Tie as tie
+
+-- the tests of the other slices
+abbrev others : tie.Start → List Bool
+others s = eqb (length (s .args .source-address .now)) 20 ∷ eqb (length (s .args .public-key .now)) 48 ∷ []
 
 settings-from-requires : tie.Need-settings-from-requires
 settings-from-requires c κs = search needs
@@ -30,32 +33,25 @@ returns c =
 
 scalars-from-requires : tie.Need-scalars-from-requires
 scalars-from-requires c κs =
-    fit-room (c .before .before .before .before .before .before .before .before .before .before .before .before
-    .before .before .args .scalars .now) (eqb (length (c .before .before .before .before .before .before .before
-    .before .before .before .before .before .before .before .args .«source_address» .now)) 20 ∷ eqb (length (c
-    .before .before .before .before .before .before .before .before .before .before .before .before .before .before
-    .args .«public_key» .now)) 48 ∷ []) (c .before .before .request-fits .ensures) (c .before .if1 .left)
+    let s = c .before .before .before .before .before .before .before .before .before .before .before .before
+    .before .before in
+    fit-room (s .args .scalars .now) (others s) (c .before .before .request-fits .ensures) (c .before .if1 .left)
 
 address-from-requires : tie.Need-address-from-requires
 address-from-requires c κs =
-    eqb-true (length (c .before .before .before .before .before .before .before .before .before .before .before
-    .before .before .before .before .args .«source_address» .now)) 20 (fit-test (c .before .before .before .before
-    .before .before .before .before .before .before .before .before .before .before .before .args .scalars .now)
-    (eqb (length (c .before .before .before .before .before .before .before .before .before .before .before .before
-    .before .before .before .args .«source_address» .now)) 20 ∷ eqb (length (c .before .before .before .before
-    .before .before .before .before .before .before .before .before .before .before .before .args .«public_key»
-    .now)) 48 ∷ []) (c .before .before .before .request-fits .ensures) (c .before .before .if1 .left) 0)
+    let s = c .before .before .before .before .before .before .before .before .before .before .before .before
+    .before .before .before in
+    let t = fit-test (s .args .scalars .now) (others s) (c .before .before .before .request-fits .ensures) (c
+    .before .before .if1 .left) 0 in
+    eqb-true (length (s .args .source-address .now)) 20 t
 
 key-from-requires : tie.Need-key-from-requires
 key-from-requires c κs =
-    eqb-true (length (c .before .before .before .before .before .before .before .before .before .before .before
-    .before .before .before .before .before .args .«public_key» .now)) 48 (fit-test (c .before .before .before
-    .before .before .before .before .before .before .before .before .before .before .before .before .before .args
-    .scalars .now) (eqb (length (c .before .before .before .before .before .before .before .before .before .before
-    .before .before .before .before .before .before .args .«source_address» .now)) 20 ∷ eqb (length (c .before
-    .before .before .before .before .before .before .before .before .before .before .before .before .before .before
-    .before .args .«public_key» .now)) 48 ∷ []) (c .before .before .before .before .request-fits .ensures) (c
-    .before .before .before .if1 .left) 1)
+    let s = c .before .before .before .before .before .before .before .before .before .before .before .before
+    .before .before .before .before in
+    let t = fit-test (s .args .scalars .now) (others s) (c .before .before .before .before .request-fits .ensures)
+    (c .before .before .before .if1 .left) 1 in
+    eqb-true (length (s .args .public-key .now)) 48 t
 
 process-execution-layer-withdrawal-request-requires :
     tie.Need-process-execution-layer-withdrawal-request-requires
@@ -63,16 +59,12 @@ process-execution-layer-withdrawal-request-requires c κs = search needs
 
 store-scalars-requires : tie.Need-store-scalars-requires
 store-scalars-requires c κs =
-    fit-room (c .before .before .before .before .before .before .before .before .before .before .before .before
+    let s = c .before .before .before .before .before .before .before .before .before .before .before .before
     .before .before .before .before .before .before .before .before .before .before .before .before .before .before
-    .args .scalars .now) (eqb (length (c .before .before .before .before .before .before .before .before .before
-    .before .before .before .before .before .before .before .before .before .before .before .before .before .before
-    .before .before .before .args .«source_address» .now)) 20 ∷ eqb (length (c .before .before .before .before
-    .before .before .before .before .before .before .before .before .before .before .before .before .before .before
-    .before .before .before .before .before .before .before .before .args .«public_key» .now)) 48 ∷ []) (c .before
-    .before .before .before .before .before .before .before .before .before .before .before .before .before
-    .request-fits .ensures) (c .before .before .before .before .before .before .before .before .before .before
-    .before .before .before .if1 .left)
+    in
+    fit-room (s .args .scalars .now) (others s) (c .before .before .before .before .before .before .before .before
+    .before .before .before .before .before .before .request-fits .ensures) (c .before .before .before .before
+    .before .before .before .before .before .before .before .before .before .if1 .left)
 
 same-length-2 : tie.Need-same-length-2
 same-length-2 c = search needs
@@ -85,19 +77,20 @@ same-length-4 c = search needs
 
 returns-2 : tie.Need-returns-2
 returns-2 c =
+    let s = c .before .before .before .before .before .before .before .before .before .before .before .before
+    .before .before .before .before .before .before .before .before .before .before .before .before .before .before
+    .before .before .before in
     exported-called (c .before .before .before .before .before .before .before .before .before .before .before
     .before .before .before .before .before .before .before .before .settings-from .ensures) (c .before .before
     .before .before .before .before .before .before .before .before .before .before .before .before .before .before
     .before .request-fits .ensures) (c .before .before .before .before .before .before .before .before .before
     .before .before .before .before .before .before .before .if1 .left) (c .before .before .before .before .before
     .before .before .before .before .before .before .before .before .before .scalars-from .ensures) (called-as (ap₂
-    (λ a k. withdrawal-request a k (c .before .before .before .before .before .before .before .before .before
-    .before .before .before .before .before .before .before .before .before .before .before .before .before .before
-    .before .before .before .before .before .before .args .amount)) (c .before .before .before .before .before
-    .before .before .before .before .before .before .before .before .address-from .ensures) (c .before .before
-    .before .before .before .before .before .before .before .before .before .before .key-from .ensures)) (c .before
-    .before .before .before .before .before .before .before .before .process-execution-layer-withdrawal-request
-    .ensures)) (c .before .before .store-scalars .ensures)
+    (λ a k. withdrawal-request a k (s .args .amount)) (c .before .before .before .before .before .before .before
+    .before .before .before .before .before .before .address-from .ensures) (c .before .before .before .before
+    .before .before .before .before .before .before .before .before .key-from .ensures)) (c .before .before .before
+    .before .before .before .before .before .before .process-execution-layer-withdrawal-request .ensures)) (c
+    .before .before .store-scalars .ensures)
 
 pub solarbasil-process-execution-layer-withdrawal-request-spec : {M : Type 1} → statement M
 solarbasil-process-execution-layer-withdrawal-request-spec =
