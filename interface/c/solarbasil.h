@@ -1,6 +1,7 @@
 /* Solarbasil: proved balance books for Ethereum validators (Electra), as a static library for x86-64 Linux.
  *
- * `rt staticlib solarbasil` writes target/staticlib/libsolarbasil.a. It needs nothing but the C library's memset.
+ * `rt staticlib solarbasil` writes target/staticlib/libsolarbasil.a. It needs memset and memcpy of the C library. The
+ * turn and the consolidation step take some 600 kilobytes of stack.
  *
  * Buffers. Each is a pointer and a length, which counts items and not bytes. A function may be lent any numbers and any
  * lengths: what it answers and leaves is proved for all of them. The caller owes what C cannot check: each pointer is

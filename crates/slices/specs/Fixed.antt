@@ -1,4 +1,4 @@
--- An exported call's promise fixes its number, every number of the scalars' slice, and every byte and word of the tables.
+-- An exported call's promise fixes its number, every number of the scalars' slice, every byte and word of the tables.
 use mathlib.Core.Path.{_≡_, refl, ap₂, sym, _∙_}
 use mathlib.Core.Bool.{Bool, true, false}
 use mathlib.Core.List.{List, _++_}

@@ -29,4 +29,6 @@ unfolding expected-given
 expected-done settings xs t s before {n} {e} c b h z g = rw (c, b) at found
   where
     found : e ≡ expected-of (settings-of settings) (books-of before t)
-    found = g ∙ if-true _ _ _ (eq-eqb (handed-refusal (settings-of settings) (books-of before t) (room-of t)) 0 (sym h ∙ z))
+    found =
+        g
+        ∙ if-true _ _ _ (eq-eqb (handed-refusal (settings-of settings) (books-of before t) (room-of t)) 0 (sym h ∙ z))

@@ -8,7 +8,7 @@ pub mod effective_balances; // solarbasil_process_effective_balance_updates
 pub mod turns; // solarbasil_turn
 pub mod deposit_receipts; // solarbasil_process_deposit_receipt
 pub mod voluntary_exits; // solarbasil_process_voluntary_exit
-pub mod withdrawal_requests; // solarbasil_process_execution_layer_withdrawal_request
+pub mod requests; // solarbasil_process_execution_layer_withdrawal_request
 pub mod consolidations; // solarbasil_process_consolidation
 pub mod payments; // solarbasil_process_withdrawals
 pub mod expected; // solarbasil_get_expected_withdrawals

@@ -353,7 +353,8 @@ impl Books {
     }
 
     pub fn partials(&self) -> Vec<PendingPartialWithdrawal> {
-        let record = |w: &[u64]| PendingPartialWithdrawal { index: w[0], amount: w[1], withdrawable_epoch: w[2] };
+        let record =
+            |w: &[u64]| PendingPartialWithdrawal { index: w[0], amount: w[1], withdrawable_epoch: w[2] };
         self.partials.chunks_exact(3).take(self.count(PARTIALS)).map(record).collect()
     }
 
@@ -521,7 +522,8 @@ impl Books {
             amount: w[2],
         };
         let all = records.chunks_exact(3).zip(addresses.chunks_exact(20));
-        Ok(ExpectedWithdrawals { list: all.take(count as usize).map(withdrawal).collect(), partials: partials as usize })
+        let list = all.take(count as usize).map(withdrawal).collect();
+        Ok(ExpectedWithdrawals { list, partials: partials as usize })
     }
 }
 

@@ -65,9 +65,15 @@ fn settings_and_books_are_judged() {
 fn receipts() {
     let mut b = two();
     let new = validator(3, 1, 0);
-    assert_eq!(b.process_deposit_receipt(&new.public_key, &new.withdrawal_credentials, 32 * G, 7, false), Ok(()));
+    assert_eq!(
+        b.process_deposit_receipt(&new.public_key, &new.withdrawal_credentials, 32 * G, 7, false),
+        Ok(())
+    );
     assert_eq!(b.validators().len(), 2);
-    assert_eq!(b.process_deposit_receipt(&new.public_key, &new.withdrawal_credentials, 32 * G, 7, true), Ok(()));
+    assert_eq!(
+        b.process_deposit_receipt(&new.public_key, &new.withdrawal_credentials, 32 * G, 7, true),
+        Ok(())
+    );
     assert_eq!(b.validators().len(), 3);
     assert_eq!(b.validators()[2].public_key, [3; 48]);
     assert_eq!(b.deposits(), [PendingBalanceDeposit { index: 2, amount: 32 * G }]);

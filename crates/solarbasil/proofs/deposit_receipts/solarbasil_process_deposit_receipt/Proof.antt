@@ -81,9 +81,6 @@ same-length-5 c = search needs
 
 returns-2 : tie.Need-returns-2
 returns-2 c =
-    let s = c .before .before .before .before .before .before .before .before .before .before .before .before
-    .before .before .before .before .before .before .before .before .before .before .before .before .before .before
-    .before .before .before .before .before .before in
     exported-called (c .before .before .before .before .before .before .before .before .before .before .before
     .before .before .before .before .before .before .before .before .before .before .before .settings-from .ensures)
     (c .before .before .before .before .before .before .before .before .before .before .before .before .before
@@ -91,11 +88,18 @@ returns-2 c =
     .before .before .before .before .before .before .before .before .before .before .before .before .before .before
     .before .before .if1 .left) (c .before .before .before .before .before .before .before .before .before .before
     .before .before .before .before .before .before .before .scalars-from .ensures) (called-as (ap₂ (λ k w.
-    deposit-receipt k w (s .args .amount) (s .args .index) (s .args .valid)) (c .before .before .before .before
-    .before .before .before .before .before .before .before .before .before .before .before .before .key-from
-    .ensures) (c .before .before .before .before .before .before .before .before .before .before .before .before
-    .before .before .before .credentials-from .ensures)) (c .before .before .before .before .before .before .before
-    .before .before .before .before .process-deposit-receipt .ensures)) (c .before .before .store-scalars .ensures)
+    deposit-receipt k w (c .before .before .before .before .before .before .before .before .before .before .before
+    .before .before .before .before .before .before .before .before .before .before .before .before .before .before
+    .before .before .before .before .before .before .before .args .amount) (c .before .before .before .before
+    .before .before .before .before .before .before .before .before .before .before .before .before .before .before
+    .before .before .before .before .before .before .before .before .before .before .before .before .before .before
+    .args .index) (c .before .before .before .before .before .before .before .before .before .before .before .before
+    .before .before .before .before .before .before .before .before .before .before .before .before .before .before
+    .before .before .before .before .before .before .args .valid)) (c .before .before .before .before .before
+    .before .before .before .before .before .before .before .before .before .before .before .key-from .ensures) (c
+    .before .before .before .before .before .before .before .before .before .before .before .before .before .before
+    .before .credentials-from .ensures)) (c .before .before .before .before .before .before .before .before .before
+    .before .before .process-deposit-receipt .ensures)) (c .before .before .store-scalars .ensures)
 
 pub solarbasil-process-deposit-receipt-spec : {M : Type 1} → statement M
 solarbasil-process-deposit-receipt-spec =

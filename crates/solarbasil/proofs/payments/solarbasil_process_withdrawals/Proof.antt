@@ -66,18 +66,17 @@ same-length-4 c = search needs
 
 returns-2 : tie.Need-returns-2
 returns-2 c =
-    let s = c .before .before .before .before .before .before .before .before .before .before .before .before
-    .before .before .before .before .before .before .before .before .before .before .before .before .before .before
-    .before .before in
     exported-called (c .before .before .before .before .before .before .before .before .before .before .before
     .before .before .before .before .before .before .before .settings-from .ensures) (c .before .before .before
     .before .before .before .before .before .before .before .before .before .before .before .before .before
     .handed-fit .ensures) (c .before .before .before .before .before .before .before .before .before .before .before
     .before .before .before .before .if1 .left) (c .before .before .before .before .before .before .before .before
     .before .before .before .before .before .scalars-from .ensures) (called-as (ap (λ l. withdrawals (handed-list l
-    (s .args .count))) (c .before .before .before .before .before .before .before .before .before .before .before
-    .before .withdrawals-from .ensures)) (c .before .before .before .before .before .before .before .before .before
-    .process-withdrawals .ensures)) (c .before .before .store-scalars .ensures)
+    (c .before .before .before .before .before .before .before .before .before .before .before .before .before
+    .before .before .before .before .before .before .before .before .before .before .before .before .before .before
+    .before .args .count))) (c .before .before .before .before .before .before .before .before .before .before
+    .before .before .withdrawals-from .ensures)) (c .before .before .before .before .before .before .before .before
+    .before .process-withdrawals .ensures)) (c .before .before .store-scalars .ensures)
 
 pub solarbasil-process-withdrawals-spec : {M : Type 1} → statement M
 solarbasil-process-withdrawals-spec =

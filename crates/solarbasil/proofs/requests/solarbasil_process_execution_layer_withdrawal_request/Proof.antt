@@ -7,8 +7,10 @@ use borrow.Author.Tests.{eqb-true}
 use Rattle.rules.specs.Calls.{withdrawal-request}
 use Rattle.slices.specs.Exported.{fit-room, fit-test, exported-unfit, exported-called, called-as}
 use borrow.Author.Needs.{needs}
-use Rattle.solarbasil.proofs.withdrawal_requests.solarbasil_process_execution_layer_withdrawal_request.Statement.{statement}
-use Rattle.solarbasil.proofs.withdrawal_requests.solarbasil_process_execution_layer_withdrawal_request.Tie as tie
+use Rattle.solarbasil.proofs.requests.solarbasil_process_execution_layer_withdrawal_request.Statement.{
+  statement,
+}
+use Rattle.solarbasil.proofs.requests.solarbasil_process_execution_layer_withdrawal_request.Tie as tie
 
 -- the tests of the other slices
 abbrev others : tie.Start → List Bool
@@ -77,20 +79,19 @@ same-length-4 c = search needs
 
 returns-2 : tie.Need-returns-2
 returns-2 c =
-    let s = c .before .before .before .before .before .before .before .before .before .before .before .before
-    .before .before .before .before .before .before .before .before .before .before .before .before .before .before
-    .before .before .before in
     exported-called (c .before .before .before .before .before .before .before .before .before .before .before
     .before .before .before .before .before .before .before .before .settings-from .ensures) (c .before .before
     .before .before .before .before .before .before .before .before .before .before .before .before .before .before
     .before .request-fits .ensures) (c .before .before .before .before .before .before .before .before .before
     .before .before .before .before .before .before .before .if1 .left) (c .before .before .before .before .before
     .before .before .before .before .before .before .before .before .before .scalars-from .ensures) (called-as (ap₂
-    (λ a k. withdrawal-request a k (s .args .amount)) (c .before .before .before .before .before .before .before
-    .before .before .before .before .before .before .address-from .ensures) (c .before .before .before .before
-    .before .before .before .before .before .before .before .before .key-from .ensures)) (c .before .before .before
-    .before .before .before .before .before .before .process-execution-layer-withdrawal-request .ensures)) (c
-    .before .before .store-scalars .ensures)
+    (λ a k. withdrawal-request a k (c .before .before .before .before .before .before .before .before .before
+    .before .before .before .before .before .before .before .before .before .before .before .before .before .before
+    .before .before .before .before .before .before .args .amount)) (c .before .before .before .before .before
+    .before .before .before .before .before .before .before .before .address-from .ensures) (c .before .before
+    .before .before .before .before .before .before .before .before .before .before .key-from .ensures)) (c .before
+    .before .before .before .before .before .before .before .before .process-execution-layer-withdrawal-request
+    .ensures)) (c .before .before .store-scalars .ensures)
 
 pub solarbasil-process-execution-layer-withdrawal-request-spec : {M : Type 1} → statement M
 solarbasil-process-execution-layer-withdrawal-request-spec =
