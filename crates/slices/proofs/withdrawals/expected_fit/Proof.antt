@@ -1,0 +1,12 @@
+use Rattle.slices.specs.Exported.{fit-three}
+use Rattle.slices.proofs.withdrawals.expected_fit.Statement.{statement}
+use Rattle.slices.proofs.withdrawals.expected_fit.Tie as tie
+use Rattle.slices.proofs.withdrawals.expected_fit.Reads as reads
+use Rattle.slices.proofs.withdrawals.expected_fit.Lts as lts
+
+-- src/withdrawals.rt:85:1
+returns : tie.Need-returns
+returns c = fit-three _ _ _
+
+pub expected-fit-spec : {M : Type 1} → statement M
+expected-fit-spec = tie.close (tie.spec returns)

@@ -1,0 +1,67 @@
+use mathlib.Core.Path.{_≡_}
+use Prim.Native.Nat.{_-_, _/_, _%_, _≤_}
+use native.Mathlib.Omega.{arith}
+use lib.ListN.{getD}
+use Rattle.slices.specs.Withdrawals.{record-of}
+use Rattle.slices.proofs.Copy.{Front, front-none, front-more}
+use Rattle.slices.proofs.withdrawals.store_addresses.Statement.{statement}
+use Rattle.slices.proofs.withdrawals.store_addresses.Tie as tie
+use Rattle.slices.proofs.withdrawals.store_addresses.Reads as reads
+use Rattle.slices.proofs.withdrawals.store_addresses.Lts as lts
+use Rattle.slices.proofs.withdrawals.byte_of.Reads as byte-of-reads
+
+abbrev Inv-loop : tie.InvT-loop
+Inv-loop addresses₀ list j₀ addresses j =
+    (j ≤ 320) × Front addresses₀ (λ q. getD (record-of list (q / 20) .address) (q % 20) 0) j addresses
+
+abbrev μ-loop : tie.MeasureT-loop
+μ-loop addresses₀ list j₀ addresses j = 320 - j
+
+-- src/withdrawals.rt:135:5
+loop-holds : tie.Need-loop-holds Inv-loop μ-loop
+loop-holds c = (omega arith, front-none)
+
+-- src/withdrawals.rt:136:24
+byte-of-requires : tie.Need-byte-of-requires Inv-loop μ-loop
+byte-of-requires c κs = omega arith
+
+-- src/withdrawals.rt:136:9
+slice-write-addresses : tie.Need-slice-write-addresses Inv-loop μ-loop
+slice-write-addresses c = omega (arith, c .before .before .loop .inv .1 .size)
+
+-- src/withdrawals.rt:137:9
+add-j : tie.Need-add-j Inv-loop μ-loop
+add-j c = omega arith
+
+-- src/withdrawals.rt:135:5
+loop-less : tie.Need-loop-less Inv-loop μ-loop
+loop-less c = omega arith
+
+-- src/withdrawals.rt:135:5
+loop-again : tie.Need-loop-again Inv-loop μ-loop
+loop-again c = (omega arith, front-more (omega arith) (c .byte-of .ensures) (c .before .before .loop .inv .1))
+
+-- src/withdrawals.rt:130:1
+same-length : tie.Need-same-length Inv-loop μ-loop
+same-length c = c .before .loop .inv .1 .size
+
+-- src/withdrawals.rt:130:1
+returns : tie.Need-returns Inv-loop μ-loop
+returns c =
+    let e : c .before .loop .j ≡ 320 = omega arith in
+    rw e at (c .before .loop .inv .1 .words)
+
+pub store-addresses-spec : {M : Type 1} → statement M
+store-addresses-spec =
+    tie.close
+    (tie.spec
+    Inv-loop
+    μ-loop
+    loop-holds
+    byte-of-requires
+    slice-write-addresses
+    add-j
+    loop-less
+    loop-again
+    same-length
+    returns)

@@ -1,0 +1,4 @@
+pub mod Numbers
+pub mod Exported
+pub mod Fixed
+pub mod Withdrawals

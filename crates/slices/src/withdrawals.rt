@@ -1,0 +1,139 @@
+// Withdrawals as slices: three numbers each (index, validator, amount), and twenty bytes each for their addresses.
+use expected_withdrawals::Withdrawal;
+use primitives::Gwei;
+use primitives::ValidatorIndex;
+use primitives::WithdrawalIndex;
+ghost use mathlib.Core.Path.{_≡_};
+ghost use mathlib.Core.List.{[], _∷_};
+ghost use Prim.Native.Nat.{_<_, _≤_, _/_, _%_};
+ghost use lib.Dec.{leb};
+ghost use lib.ListN.{length, getD};
+ghost use Rattle.slices.specs.Exported.{fit};
+ghost use Rattle.slices.specs.Withdrawals.{address-at, withdrawal-at, withdrawals-in};
+ghost use Rattle.slices.specs.Withdrawals.{part, record-of, with-records, with-addresses};
+
+// The byte at place k; 0 where there is none.
+fn byte_at(bytes: &[u8], k: usize) -> u8
+    ensures { λ r. ⌜ r ≡ getD (now (bytes .entry)) k 0 ⌝ }
+{
+    if k < bytes.len() { bytes[k] } else { 0 }
+}
+
+pub fn address_at(addresses: &[u8], i: usize) -> [u8; 20]
+    requires { ⌜ i < 16 ⌝ }
+    ensures { λ r. ⌜ r ≡ address-at (now (addresses .entry)) i ⌝ }
+{
+    let mut out = [0u8; 20];
+    let mut j = 0;
+    while j < 20 {
+        out[j] = byte_at(addresses, 20 * i + j);
+        j += 1;
+    }
+    out
+}
+
+fn withdrawal_at(records: &[u64], addresses: &[u8], i: usize) -> Withdrawal
+    requires { ⌜ i < 16 ⌝ }
+    ensures { λ r. ⌜ r ≡ withdrawal-at (now (records .entry)) (now (addresses .entry)) i ⌝ }
+{
+    let index = crate::number_at(records, 3 * i);
+    let validator = crate::number_at(records, 3 * i + 1);
+    let address = address_at(addresses, i);
+    let amount = crate::number_at(records, 3 * i + 2);
+    Withdrawal {
+        index: WithdrawalIndex(index),
+        validator_index: ValidatorIndex(validator as usize),
+        address,
+        amount: Gwei(amount),
+    }
+}
+
+// The first sixteen withdrawals; what is missing reads as 0.
+pub fn withdrawals_from(records: &[u64], addresses: &[u8]) -> [Withdrawal; 16]
+    ensures { λ r. ⌜ r ≡ withdrawals-in (now (records .entry)) (now (addresses .entry)) ⌝ }
+{
+    let blank = Withdrawal {
+        index: WithdrawalIndex(0),
+        validator_index: ValidatorIndex(0),
+        address: [0u8; 20],
+        amount: Gwei(0),
+    };
+    let mut out = [blank; 16];
+    let mut j = 0;
+    while j < 16 {
+        let w = withdrawal_at(records, addresses, j);
+        out[j] = w;
+        j += 1;
+    }
+    out
+}
+
+// There are n records and n addresses.
+pub fn handed_fit(scalars: &[u64], records: &[u64], addresses: &[u8], n: u64) -> bool
+    ensures { λ r. ⌜
+        r
+        ≡ fit (now (scalars .entry))
+        (leb n (length (now (records .entry)) / 3) ∷ leb n (length (now (addresses .entry)) / 20) ∷ [])
+        ⌝ }
+{
+    (crate::SCALARS <= scalars.len())
+        & (n <= (records.len() / 3) as u64)
+        & (n <= (addresses.len() / 20) as u64)
+}
+
+// There is room for sixteen.
+pub fn expected_fit(scalars: &[u64], records: &[u64], addresses: &[u8]) -> bool
+    ensures { λ r. ⌜
+        r
+        ≡ fit (now (scalars .entry))
+        (leb 48 (length (now (records .entry))) ∷ leb 320 (length (now (addresses .entry))) ∷ [])
+        ⌝ }
+{
+    (crate::SCALARS <= scalars.len()) & (48 <= records.len()) & (320 <= addresses.len())
+}
+
+fn number_of(list: [Withdrawal; 16], q: usize) -> u64
+    requires { ⌜ q < 48 ⌝ }
+    ensures { λ r. ⌜ r ≡ part (record-of list (q / 3)) (q % 3) ⌝ }
+{
+    let w = list[q / 3];
+    let k = q % 3;
+    if k == 0 {
+        return w.index.0;
+    }
+    if k == 1 {
+        return w.validator_index.0 as u64;
+    }
+    w.amount.0
+}
+
+pub fn store_records(records: &mut [u64], list: [Withdrawal; 16])
+    requires { ⌜ 48 ≤ length (now records) ⌝ }
+    ensures { λ r. ⌜ now (records .exit) ≡ with-records (now (records .entry)) list ⌝ }
+{
+    let mut j = 0;
+    while j < 48 {
+        records[j] = number_of(list, j);
+        j += 1;
+    }
+}
+
+fn byte_of(list: [Withdrawal; 16], q: usize) -> u8
+    requires { ⌜ q < 320 ⌝ }
+    ensures { λ r. ⌜ r ≡ getD (record-of list (q / 20) .address) (q % 20) 0 ⌝ }
+{
+    let w = list[q / 20];
+    let a = w.address;
+    a[q % 20]
+}
+
+pub fn store_addresses(addresses: &mut [u8], list: [Withdrawal; 16])
+    requires { ⌜ 320 ≤ length (now addresses) ⌝ }
+    ensures { λ r. ⌜ now (addresses .exit) ≡ with-addresses (now (addresses .entry)) list ⌝ }
+{
+    let mut j = 0;
+    while j < 320 {
+        addresses[j] = byte_of(list, j);
+        j += 1;
+    }
+}

@@ -1,0 +1,122 @@
+use mathlib.Core.Path.{ap₂}
+use mathlib.Core.Bool.{Bool}
+use mathlib.Core.List.{List, [], _∷_}
+use lib.Dec.{eqb}
+use lib.ListN.{length}
+use borrow.Author.Tests.{eqb-true}
+use Rattle.rules.specs.Calls.{deposit-receipt}
+use Rattle.slices.specs.Exported.{fit-room, fit-test, exported-unfit, exported-called, called-as}
+use borrow.Author.Needs.{needs}
+use Rattle.solarbasil.proofs.deposit_receipts.solarbasil_process_deposit_receipt.Statement.{statement}
+use Rattle.solarbasil.proofs.deposit_receipts.solarbasil_process_deposit_receipt.Tie as tie
+
+-- the tests of the other slices
+abbrev others : tie.Start → List Bool
+others s =
+    eqb (length (s .args .public-key .now)) 48 ∷ eqb (length (s .args .withdrawal-credentials .now)) 32 ∷ []
+
+settings-from-requires : tie.Need-settings-from-requires
+settings-from-requires c κs = search needs
+
+receipt-fits-requires : tie.Need-receipt-fits-requires
+receipt-fits-requires c κs = search needs
+
+unfit-answer-requires : tie.Need-unfit-answer-requires
+unfit-answer-requires c κs = search needs
+
+same-length : tie.Need-same-length
+same-length c = search needs
+
+returns : tie.Need-returns
+returns c =
+    exported-unfit (c .before .before .before .before .settings-from .ensures) (c .before .before .receipt-fits
+    .ensures) (c .before .if1 .taken) (c .unfit-answer .ensures)
+
+scalars-from-requires : tie.Need-scalars-from-requires
+scalars-from-requires c κs =
+    let s = c .before .before .before .before .before .before .before .before .before .before .before .before
+    .before .before in
+    fit-room (s .args .scalars .now) (others s) (c .before .before .receipt-fits .ensures) (c .before .if1 .left)
+
+key-from-requires : tie.Need-key-from-requires
+key-from-requires c κs =
+    let s = c .before .before .before .before .before .before .before .before .before .before .before .before
+    .before .before .before in
+    let t = fit-test (s .args .scalars .now) (others s) (c .before .before .before .receipt-fits .ensures) (c
+    .before .before .if1 .left) 0 in
+    eqb-true (length (s .args .public-key .now)) 48 t
+
+credentials-from-requires : tie.Need-credentials-from-requires
+credentials-from-requires c κs =
+    let s = c .before .before .before .before .before .before .before .before .before .before .before .before
+    .before .before .before .before in
+    let t = fit-test (s .args .scalars .now) (others s) (c .before .before .before .before .receipt-fits .ensures)
+    (c .before .before .before .if1 .left) 1 in
+    eqb-true (length (s .args .withdrawal-credentials .now)) 32 t
+
+process-deposit-receipt-requires : tie.Need-process-deposit-receipt-requires
+process-deposit-receipt-requires c κs = search needs
+
+store-scalars-requires : tie.Need-store-scalars-requires
+store-scalars-requires c κs =
+    let s = c .before .before .before .before .before .before .before .before .before .before .before .before
+    .before .before .before .before .before .before .before .before .before .before .before .before .before .before
+    .before .before .before in
+    fit-room (s .args .scalars .now) (others s) (c .before .before .before .before .before .before .before .before
+    .before .before .before .before .before .before .before .before .before .receipt-fits .ensures) (c .before
+    .before .before .before .before .before .before .before .before .before .before .before .before .before .before
+    .before .if1 .left)
+
+same-length-2 : tie.Need-same-length-2
+same-length-2 c = search needs
+
+same-length-3 : tie.Need-same-length-3
+same-length-3 c = search needs
+
+same-length-4 : tie.Need-same-length-4
+same-length-4 c = search needs
+
+same-length-5 : tie.Need-same-length-5
+same-length-5 c = search needs
+
+returns-2 : tie.Need-returns-2
+returns-2 c =
+    exported-called (c .before .before .before .before .before .before .before .before .before .before .before
+    .before .before .before .before .before .before .before .before .before .before .before .settings-from .ensures)
+    (c .before .before .before .before .before .before .before .before .before .before .before .before .before
+    .before .before .before .before .before .before .before .receipt-fits .ensures) (c .before .before .before
+    .before .before .before .before .before .before .before .before .before .before .before .before .before .before
+    .before .before .if1 .left) (c .before .before .before .before .before .before .before .before .before .before
+    .before .before .before .before .before .before .before .scalars-from .ensures) (called-as (ap₂ (λ k w.
+    deposit-receipt k w (c .before .before .before .before .before .before .before .before .before .before .before
+    .before .before .before .before .before .before .before .before .before .before .before .before .before .before
+    .before .before .before .before .before .before .before .args .amount) (c .before .before .before .before
+    .before .before .before .before .before .before .before .before .before .before .before .before .before .before
+    .before .before .before .before .before .before .before .before .before .before .before .before .before .before
+    .args .index) (c .before .before .before .before .before .before .before .before .before .before .before .before
+    .before .before .before .before .before .before .before .before .before .before .before .before .before .before
+    .before .before .before .before .before .before .args .valid)) (c .before .before .before .before .before
+    .before .before .before .before .before .before .before .before .before .before .before .key-from .ensures) (c
+    .before .before .before .before .before .before .before .before .before .before .before .before .before .before
+    .before .credentials-from .ensures)) (c .before .before .before .before .before .before .before .before .before
+    .before .before .process-deposit-receipt .ensures)) (c .before .before .store-scalars .ensures)
+
+pub solarbasil-process-deposit-receipt-spec : {M : Type 1} → statement M
+solarbasil-process-deposit-receipt-spec =
+    tie.close
+    (tie.spec
+    settings-from-requires
+    receipt-fits-requires
+    unfit-answer-requires
+    same-length
+    returns
+    scalars-from-requires
+    key-from-requires
+    credentials-from-requires
+    process-deposit-receipt-requires
+    store-scalars-requires
+    same-length-2
+    same-length-3
+    same-length-4
+    same-length-5
+    returns-2)

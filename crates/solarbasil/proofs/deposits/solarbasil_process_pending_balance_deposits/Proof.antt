@@ -1,0 +1,75 @@
+use borrow.Author.Needs.{needs}
+use mathlib.Core.List.{[]}
+use Rattle.slices.specs.Exported.{fit-room, exported-unfit, exported-called}
+use Rattle.solarbasil.proofs.deposits.solarbasil_process_pending_balance_deposits.Statement.{
+  statement,
+}
+use Rattle.solarbasil.proofs.deposits.solarbasil_process_pending_balance_deposits.Tie as tie
+
+settings-from-requires : tie.Need-settings-from-requires
+settings-from-requires c κs = search needs
+
+scalars-fit-requires : tie.Need-scalars-fit-requires
+scalars-fit-requires c κs = search needs
+
+unfit-answer-requires : tie.Need-unfit-answer-requires
+unfit-answer-requires c κs = search needs
+
+same-length : tie.Need-same-length
+same-length c = search needs
+
+returns : tie.Need-returns
+returns c =
+    exported-unfit (c .before .before .before .before .settings-from .ensures) (c .before .before .scalars-fit
+    .ensures) (c .before .if1 .taken) (c .unfit-answer .ensures)
+
+scalars-from-requires : tie.Need-scalars-from-requires
+scalars-from-requires c κs =
+    fit-room (c .before .before .before .before .before .before .before .before .before .before .before .before
+    .args .scalars .now) [] (c .before .before .scalars-fit .ensures) (c .before .if1 .left)
+
+process-pending-balance-deposits-requires : tie.Need-process-pending-balance-deposits-requires
+process-pending-balance-deposits-requires c κs = search needs
+
+store-scalars-requires : tie.Need-store-scalars-requires
+store-scalars-requires c κs =
+    fit-room (c .before .before .before .before .before .before .before .before .before .before .before .before
+    .before .before .before .before .before .before .before .before .before .before .args .scalars .now) [] (c
+    .before .before .before .before .before .before .before .before .before .before .before .before .scalars-fit
+    .ensures) (c .before .before .before .before .before .before .before .before .before .before .before .if1 .left)
+
+same-length-2 : tie.Need-same-length-2
+same-length-2 c = search needs
+
+same-length-3 : tie.Need-same-length-3
+same-length-3 c = search needs
+
+same-length-4 : tie.Need-same-length-4
+same-length-4 c = search needs
+
+returns-2 : tie.Need-returns-2
+returns-2 c =
+    exported-called (c .before .before .before .before .before .before .before .before .before .before .before
+    .before .before .before .before .before .before .settings-from .ensures) (c .before .before .before .before
+    .before .before .before .before .before .before .before .before .before .before .before .scalars-fit .ensures)
+    (c .before .before .before .before .before .before .before .before .before .before .before .before .before
+    .before .if1 .left) (c .before .before .before .before .before .before .before .before .before .before .before
+    .before .scalars-from .ensures) (c .before .before .before .before .before .before .before .before .before
+    .process-pending-balance-deposits .ensures) (c .before .before .store-scalars .ensures)
+
+pub solarbasil-process-pending-balance-deposits-spec : {M : Type 1} → statement M
+solarbasil-process-pending-balance-deposits-spec =
+    tie.close
+    (tie.spec
+    settings-from-requires
+    scalars-fit-requires
+    unfit-answer-requires
+    same-length
+    returns
+    scalars-from-requires
+    process-pending-balance-deposits-requires
+    store-scalars-requires
+    same-length-2
+    same-length-3
+    same-length-4
+    returns-2)

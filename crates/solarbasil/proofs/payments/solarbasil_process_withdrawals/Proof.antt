@@ -1,0 +1,97 @@
+use mathlib.Core.Path.{ap}
+use mathlib.Core.Bool.{Bool}
+use mathlib.Core.List.{List, [], _∷_}
+use Prim.Native.Nat.{_/_}
+use lib.Dec.{leb}
+use lib.ListN.{length}
+use Rattle.rules.specs.Calls.{withdrawals}
+use Rattle.expected_withdrawals.specs.Expected.{handed-list}
+use Rattle.slices.specs.Exported.{fit-room, exported-unfit, exported-called, called-as}
+use borrow.Author.Needs.{needs}
+use Rattle.solarbasil.proofs.payments.solarbasil_process_withdrawals.Statement.{statement}
+use Rattle.solarbasil.proofs.payments.solarbasil_process_withdrawals.Tie as tie
+
+-- the tests of the other slices
+abbrev others : tie.Start → List Bool
+others s =
+    leb (s .args .count) (length (s .args .records .now) / 3)
+    ∷ leb (s .args .count) (length (s .args .addresses .now) / 20)
+    ∷ []
+
+settings-from-requires : tie.Need-settings-from-requires
+settings-from-requires c κs = search needs
+
+handed-fit-requires : tie.Need-handed-fit-requires
+handed-fit-requires c κs = search needs
+
+unfit-answer-requires : tie.Need-unfit-answer-requires
+unfit-answer-requires c κs = search needs
+
+same-length : tie.Need-same-length
+same-length c = search needs
+
+returns : tie.Need-returns
+returns c =
+    exported-unfit (c .before .before .before .before .settings-from .ensures) (c .before .before .handed-fit
+    .ensures) (c .before .if1 .taken) (c .unfit-answer .ensures)
+
+scalars-from-requires : tie.Need-scalars-from-requires
+scalars-from-requires c κs =
+    let s = c .before .before .before .before .before .before .before .before .before .before .before .before
+    .before .before in
+    fit-room (s .args .scalars .now) (others s) (c .before .before .handed-fit .ensures) (c .before .if1 .left)
+
+withdrawals-from-requires : tie.Need-withdrawals-from-requires
+withdrawals-from-requires c κs = search needs
+
+process-withdrawals-requires : tie.Need-process-withdrawals-requires
+process-withdrawals-requires c κs = search needs
+
+store-scalars-requires : tie.Need-store-scalars-requires
+store-scalars-requires c κs =
+    let s = c .before .before .before .before .before .before .before .before .before .before .before .before
+    .before .before .before .before .before .before .before .before .before .before .before .before .before in
+    fit-room (s .args .scalars .now) (others s) (c .before .before .before .before .before .before .before .before
+    .before .before .before .before .before .handed-fit .ensures) (c .before .before .before .before .before .before
+    .before .before .before .before .before .before .if1 .left)
+
+same-length-2 : tie.Need-same-length-2
+same-length-2 c = search needs
+
+same-length-3 : tie.Need-same-length-3
+same-length-3 c = search needs
+
+same-length-4 : tie.Need-same-length-4
+same-length-4 c = search needs
+
+returns-2 : tie.Need-returns-2
+returns-2 c =
+    exported-called (c .before .before .before .before .before .before .before .before .before .before .before
+    .before .before .before .before .before .before .before .settings-from .ensures) (c .before .before .before
+    .before .before .before .before .before .before .before .before .before .before .before .before .before
+    .handed-fit .ensures) (c .before .before .before .before .before .before .before .before .before .before .before
+    .before .before .before .before .if1 .left) (c .before .before .before .before .before .before .before .before
+    .before .before .before .before .before .scalars-from .ensures) (called-as (ap (λ l. withdrawals (handed-list l
+    (c .before .before .before .before .before .before .before .before .before .before .before .before .before
+    .before .before .before .before .before .before .before .before .before .before .before .before .before .before
+    .before .args .count))) (c .before .before .before .before .before .before .before .before .before .before
+    .before .before .withdrawals-from .ensures)) (c .before .before .before .before .before .before .before .before
+    .before .process-withdrawals .ensures)) (c .before .before .store-scalars .ensures)
+
+pub solarbasil-process-withdrawals-spec : {M : Type 1} → statement M
+solarbasil-process-withdrawals-spec =
+    tie.close
+    (tie.spec
+    settings-from-requires
+    handed-fit-requires
+    unfit-answer-requires
+    same-length
+    returns
+    scalars-from-requires
+    withdrawals-from-requires
+    process-withdrawals-requires
+    store-scalars-requires
+    same-length-2
+    same-length-3
+    same-length-4
+    returns-2)

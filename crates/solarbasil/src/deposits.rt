@@ -1,0 +1,43 @@
+// The deposit step alone, for other languages.
+ghost use mathlib.Core.List.{[]};
+ghost use Rattle.rules.specs.Calls.{pending-balance-deposits};
+ghost use Rattle.records.specs.Books.{tables};
+ghost use Rattle.slices.specs.Exported.{Exported};
+
+#[no_mangle]
+pub extern "C" fn solarbasil_process_pending_balance_deposits(
+    settings: &[u64],
+    scalars: &mut [u64],
+    identities: &[u8],
+    validators: &mut [u64],
+    deposits: &mut [u64],
+    partials: &[u64],
+    consolidations: &[u64],
+) -> u8
+    ensures { λ r. ⌜
+        Exported (now (settings .entry)) pending-balance-deposits []
+        (tables (now (identities .entry)) (now (validators .entry)) (now (deposits .entry))
+        (now (partials .entry)) (now (consolidations .entry)))
+        (tables (now (identities .entry)) (now (validators .exit)) (now (deposits .exit))
+        (now (partials .entry)) (now (consolidations .entry)))
+        (now (scalars .entry)) (now (scalars .exit)) r
+        ⌝ }
+{
+    let chain = slices::settings_from(settings);
+    if !slices::scalars_fit(scalars) {
+        return slices::unfit_answer(chain);
+    }
+    let before = slices::scalars_from(scalars);
+    let outcome = electra::deposits::process_pending_balance_deposits(
+        chain,
+        before,
+        identities,
+        validators,
+        deposits,
+        partials,
+        consolidations,
+    );
+    let after = outcome.scalars;
+    slices::store_scalars(scalars, after);
+    outcome.number
+}

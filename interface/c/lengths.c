@@ -1,0 +1,136 @@
+/* Slices of every length: what is answered, and that a refusal leaves all as it was. */
+#include <stdio.h>
+#include <string.h>
+
+#include "solarbasil.h"
+
+enum { LIMIT = 4 };
+
+static const uint64_t G = 1000000000;
+
+static const uint64_t settings[SOLARBASIL_SETTINGS + 1] = {
+    32000000000, 2048000000000, 1000000000, 128000000000, 256000000000, 65536, 256, 256, 4, 4, 1, 5, 8, 16, 16384,
+    LIMIT, LIMIT, LIMIT, LIMIT, 7};
+
+/* The books, and a copy of them as they were opened. */
+struct books {
+    uint64_t scalars[SOLARBASIL_SCALARS + 1];
+    uint8_t identities[80 * LIMIT];
+    uint64_t validators[7 * LIMIT];
+    uint64_t deposits[2 * LIMIT];
+    uint64_t partials[3 * LIMIT];
+    uint64_t consolidations[2 * LIMIT];
+};
+
+static struct books b, opened;
+
+static int failures;
+
+static void open_books(void) {
+    memset(&b, 0, sizeof b);
+    b.scalars[0] = 1000;
+    b.scalars[9] = 1;
+    b.scalars[SOLARBASIL_SCALARS] = 99;
+    b.identities[48] = 1;
+    b.validators[1] = 32 * G;
+    b.validators[4] = SOLARBASIL_FAR;
+    b.validators[5] = SOLARBASIL_FAR;
+    b.validators[6] = 40 * G;
+    opened = b;
+}
+
+static void expect(const char *what, uint8_t answer, uint8_t wanted) {
+    bool same = memcmp(&b, &opened, sizeof b) == 0;
+    if (answer != wanted || (wanted != 0 && !same)) {
+        printf("%s: answered %d, wanted %d%s\n", what, answer, wanted, same ? "" : ", books changed");
+        failures++;
+    }
+    open_books();
+}
+
+static uint8_t reward(size_t settings_len, size_t scalars_len, size_t deposits_len) {
+    return solarbasil_reward(settings, settings_len, b.scalars, scalars_len, b.identities, sizeof b.identities,
+                             b.validators, 7 * LIMIT, b.deposits, deposits_len, b.partials, 3 * LIMIT,
+                             b.consolidations, 2 * LIMIT, 0, 5);
+}
+
+static uint8_t receipt(size_t settings_len, size_t key_len, size_t credentials_len) {
+    static const uint8_t bytes[64] = {1};
+    return solarbasil_process_deposit_receipt(settings, settings_len, b.scalars, SOLARBASIL_SCALARS, b.identities,
+                                              sizeof b.identities, b.validators, 7 * LIMIT, b.deposits, 2 * LIMIT,
+                                              b.partials, 3 * LIMIT, b.consolidations, 2 * LIMIT, bytes, key_len,
+                                              bytes, credentials_len, G, 0, true);
+}
+
+static uint8_t request(size_t address_len, size_t key_len) {
+    static const uint8_t bytes[64] = {0};
+    return solarbasil_process_execution_layer_withdrawal_request(
+        settings, SOLARBASIL_SETTINGS, b.scalars, SOLARBASIL_SCALARS, b.identities, sizeof b.identities, b.validators,
+        7 * LIMIT, b.deposits, 2 * LIMIT, b.partials, 3 * LIMIT, b.consolidations, 2 * LIMIT, bytes, address_len,
+        bytes, key_len, G);
+}
+
+static uint8_t payments(size_t records_len, size_t addresses_len, uint64_t count) {
+    static const uint64_t records[3 * 17];
+    static const uint8_t addresses[20 * 17];
+    return solarbasil_process_withdrawals(settings, SOLARBASIL_SETTINGS, b.scalars, SOLARBASIL_SCALARS, b.identities,
+                                          sizeof b.identities, b.validators, 7 * LIMIT, b.deposits, 2 * LIMIT,
+                                          b.partials, 3 * LIMIT, b.consolidations, 2 * LIMIT, records, records_len,
+                                          addresses, addresses_len, count);
+}
+
+/* The results of the expected list past which nothing is stored. */
+static uint64_t records[SOLARBASIL_RECORDS + 1];
+static uint8_t addresses[SOLARBASIL_ADDRESSES + 1];
+static uint64_t count, partial_count;
+
+static uint8_t expected(size_t records_len, size_t addresses_len) {
+    memset(records, 0xee, sizeof records);
+    memset(addresses, 0xee, sizeof addresses);
+    count = partial_count = 77;
+    return solarbasil_get_expected_withdrawals(settings, SOLARBASIL_SETTINGS, b.scalars, SOLARBASIL_SCALARS,
+                                               b.identities, sizeof b.identities, b.validators, 7 * LIMIT, b.deposits,
+                                               2 * LIMIT, b.partials, 3 * LIMIT, b.consolidations, 2 * LIMIT, records,
+                                               records_len, addresses, addresses_len, &count, &partial_count);
+}
+
+static void expect_that(const char *what, bool holds) {
+    if (!holds) {
+        printf("%s\n", what);
+        failures++;
+    }
+}
+
+int main(void) {
+    open_books();
+    expect("reward", reward(19, 13, 2 * LIMIT), 0);
+    expect("one setting more", reward(20, 13, 2 * LIMIT), 0);
+    expect("one setting less", reward(18, 13, 2 * LIMIT), 1);
+    expect("no settings", reward(0, 13, 2 * LIMIT), 1);
+    expect("one scalar less", reward(19, 12, 2 * LIMIT), 3);
+    expect("one scalar and one setting less", reward(18, 12, 2 * LIMIT), 1);
+    expect("a short table", reward(19, 13, 2 * LIMIT - 1), 3);
+    reward(19, 14, 2 * LIMIT);
+    expect_that("the number past the scalars changed", b.scalars[SOLARBASIL_SCALARS] == 99);
+    open_books();
+    expect("receipt", receipt(19, 48, 32), 0);
+    expect("a short key", receipt(19, 47, 32), 3);
+    expect("a long key", receipt(19, 49, 32), 3);
+    expect("short credentials", receipt(19, 48, 31), 3);
+    expect("a short key and one setting less", receipt(18, 47, 32), 1);
+    expect("request", request(20, 48), 0);
+    expect("a short address", request(19, 48), 3);
+    expect("a request's short key", request(20, 47), 3);
+    expect("no withdrawals", payments(0, 0, 0), 30);
+    expect("short records", payments(2, 20, 1), 3);
+    expect("short addresses", payments(3, 19, 1), 3);
+    expect("seventeen withdrawals", payments(3 * 17, 20 * 17, 17), 30);
+    expect("a count past every slice", payments(3 * 17, 20 * 17, UINT64_MAX), 3);
+    expect("short expected records", expected(47, 320), 3);
+    expect_that("a refusal stored a count", count == 77 && partial_count == 77 && records[0] == records[48]);
+    expect("short expected addresses", expected(48, 319), 3);
+    expect("expected list", expected(49, 321), 0);
+    expect_that("expected list", count == 1 && partial_count == 0 && records[2] == 8 * G && records[3] == 0);
+    expect_that("stored past the list", records[48] == 0xeeeeeeeeeeeeeeee && addresses[320] == 0xee);
+    return failures != 0;
+}

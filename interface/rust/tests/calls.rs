@@ -1,0 +1,141 @@
+//! Each call once through the wrapper, with what it leaves and a refusal. The library's proofs say the rest.
+use solarbasil::{
+    epoch_assignment, Assignment, Books, Full, Limits, PendingBalanceDeposit, PendingConsolidation,
+    PendingPartialWithdrawal, Refused, Scalars, Settings, Validator, FAR,
+};
+
+const G: u64 = 1_000_000_000;
+
+fn validator(key: u8, prefix: u8, balance: u64) -> Validator {
+    let mut withdrawal_credentials = [key; 32];
+    withdrawal_credentials[0] = prefix;
+    Validator {
+        public_key: [key; 48],
+        withdrawal_credentials,
+        slashed: false,
+        effective_balance: 32 * G,
+        activation_eligibility_epoch: 0,
+        activation_epoch: 0,
+        exit_epoch: FAR,
+        withdrawable_epoch: FAR,
+        balance,
+    }
+}
+
+fn books(limit: u64) -> Books {
+    let limits = Limits { registry: limit, deposits: limit, partials: limit, consolidations: limit };
+    Books::new(&Settings::mainnet(limits), &Scalars { epoch: 1000, ..Scalars::default() })
+}
+
+/// Two validators, of prefix 01 and 02, with 40 G each.
+fn two() -> Books {
+    let mut b = books(4);
+    b.push_validator(&validator(1, 1, 40 * G)).unwrap();
+    b.push_validator(&validator(2, 2, 40 * G)).unwrap();
+    b
+}
+
+#[test]
+fn rewards_and_penalties() {
+    let mut b = two();
+    assert_eq!(b.reward(1, 5), Ok(()));
+    assert_eq!(b.validators()[1].balance, 40 * G + 5);
+    assert_eq!(b.penalty(0, 41 * G), Ok(()));
+    assert_eq!(b.validators()[0].balance, 0);
+    assert_eq!(b.total(), Ok(40 * G + 5));
+    let before = b.clone();
+    assert_eq!(b.reward(2, 5), Err(Refused(10)));
+    assert_eq!(b.reward(0, 1 << 62), Err(Refused(41)));
+    assert_eq!(b, before);
+}
+
+#[test]
+fn settings_and_books_are_judged() {
+    let mut b = books(0);
+    assert_eq!(b.turn(), Err(Refused(1)));
+    let mut b = books(4);
+    assert_eq!(b.turn(), Err(Refused(2)));
+    assert_eq!(b.total(), Err(Refused(2)));
+    let mut b = books(1);
+    assert_eq!(b.push_validator(&validator(1, 1, 0)), Ok(()));
+    assert_eq!(b.push_validator(&validator(1, 1, 0)), Err(Full));
+}
+
+#[test]
+fn receipts() {
+    let mut b = two();
+    let new = validator(3, 1, 0);
+    assert_eq!(
+        b.process_deposit_receipt(&new.public_key, &new.withdrawal_credentials, 32 * G, 7, false),
+        Ok(())
+    );
+    assert_eq!(b.validators().len(), 2);
+    assert_eq!(
+        b.process_deposit_receipt(&new.public_key, &new.withdrawal_credentials, 32 * G, 7, true),
+        Ok(())
+    );
+    assert_eq!(b.validators().len(), 3);
+    assert_eq!(b.validators()[2].public_key, [3; 48]);
+    assert_eq!(b.deposits(), [PendingBalanceDeposit { index: 2, amount: 32 * G }]);
+    assert_eq!(b.total(), Ok(112 * G));
+}
+
+#[test]
+fn requests() {
+    let mut b = two();
+    assert_eq!(b.process_execution_layer_withdrawal_request(&[2; 20], &[2; 48], 3 * G), Ok(()));
+    assert_eq!(b.partials().len(), 1);
+    assert_eq!((b.partials()[0].index, b.partials()[0].amount), (1, 3 * G));
+    // Another address: set aside.
+    assert_eq!(b.process_execution_layer_withdrawal_request(&[3; 20], &[1; 48], 0), Ok(()));
+    assert_eq!(b.validators()[0].exit_epoch, FAR);
+    assert_eq!(b.process_execution_layer_withdrawal_request(&[1; 20], &[1; 48], 0), Ok(()));
+    assert_eq!(b.validators()[0].exit_epoch, 1005);
+    assert_eq!(b.process_voluntary_exit(1, 1000, true), Err(Refused(15)));
+}
+
+#[test]
+fn consolidations_and_steps() {
+    let mut b = two();
+    assert_eq!(b.process_consolidation(0, 0, 1000, true), Err(Refused(21)));
+    b.push_deposit(&PendingBalanceDeposit { index: 1, amount: G }).unwrap();
+    b.push_consolidation(&PendingConsolidation { source_index: 0, target_index: 1 }).unwrap();
+    assert_eq!(b.process_pending_balance_deposits(), Ok(()));
+    assert_eq!(b.validators()[1].balance, 41 * G);
+    assert_eq!(b.process_pending_consolidations(), Ok(()));
+    assert_eq!(b.consolidations().len(), 1);
+    assert_eq!(b.process_effective_balance_updates(), Ok(()));
+    assert_eq!(b.validators()[1].effective_balance, 41 * G);
+    assert_eq!(b.turn(), Ok(()));
+    assert_eq!(b.scalars().epoch, 1001);
+    assert_eq!(b.total(), Ok(81 * G));
+}
+
+#[test]
+fn withdrawals() {
+    let mut b = two();
+    b.push_partial(&PendingPartialWithdrawal { index: 1, amount: 5 * G, withdrawable_epoch: 0 }).unwrap();
+    let expected = b.get_expected_withdrawals().unwrap();
+    assert_eq!(expected.partials, 1);
+    assert_eq!(expected.list.len(), 2);
+    assert_eq!((expected.list[0].validator_index, expected.list[0].amount), (1, 5 * G));
+    assert_eq!((expected.list[1].index, expected.list[1].amount), (1, 8 * G));
+    assert_eq!(expected.list[1].address, [1; 20]);
+    let before = b.clone();
+    assert_eq!(b.process_withdrawals(&expected.list[..1]), Err(Refused(30)));
+    assert_eq!(b.process_withdrawals(&expected.list.repeat(9)), Err(Refused(30)));
+    assert_eq!(b, before);
+    assert_eq!(b.process_withdrawals(&expected.list), Ok(()));
+    assert_eq!(b.total(), Ok(67 * G));
+    assert_eq!(b.partials(), []);
+    assert_eq!(b.scalars().next_withdrawal_index, 2);
+}
+
+#[test]
+fn assignments() {
+    let of = |amount| epoch_assignment(32 * G, 1005, 1005, 128 * G, amount);
+    assert_eq!(of(32 * G), Ok(Assignment { left: 0, epoch: 1005 }));
+    assert_eq!(of(32 * G + 1), Ok(Assignment { left: 127_999_999_999, epoch: 1006 }));
+    assert_eq!(epoch_assignment(0, 0, 0, 0, 0), Err(Refused(50)));
+    assert_eq!(epoch_assignment(0, FAR, 0, 1, 0), Err(Refused(42)));
+}
