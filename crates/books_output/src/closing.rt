@@ -1,7 +1,7 @@
 // The whole of what the program `close` does between the bytes that it reads and the bytes that it writes.
 use crate::buffers;
 use crate::files;
-use books_writer::Written;
+use file_stores::Written;
 use primitives::answers;
 ghost use mathlib.Core.Path.{_≡_};
 ghost use Prim.Native.Nat.{_≤_};

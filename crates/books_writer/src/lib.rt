@@ -2,6 +2,7 @@
 pub mod counted; // the four counted lists
 pub mod front; // the head, the settings and the scalars
 
+use file_stores::Written;
 use primitives::Scalars;
 use primitives::Settings;
 use primitives::answers;
@@ -13,12 +14,6 @@ ghost use Rattle.records.specs.Books.{tables, books-of};
 ghost use Rattle.file_format.specs.Answers.{over};
 ghost use Rattle.file_format.specs.File.{write-books};
 ghost use Rattle.books_writer.specs.Written.{file-length, Ready, BooksWritten};
-
-// What the writer answers: the number of its cause, and how many bytes the file has.
-pub struct Written {
-    pub number: u8,
-    pub length: usize,
-}
 
 // 90 words and those of the records: 46 a validator, 6 a deposit, 9 a partial withdrawal, 6 a consolidation.
 fn file_length(scalars: Scalars) -> usize

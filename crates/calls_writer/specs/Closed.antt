@@ -6,8 +6,8 @@ use native.Mathlib.Omega.{arith}
 use lib.ListN.{length, take, drop, length-append}
 use Rattle.rules.specs.Calls.{Operation}
 use Rattle.file_format.specs.Words.{word, calls-head, end-word, with-end, words}
-use Rattle.file_format.specs.Fields.{number, each}
-use Rattle.file_format.specs.Calls.{amount-fields, call, calls-limit, calls-format}
+use Rattle.file_format.specs.Fields.{each}
+use Rattle.file_format.specs.Calls.{call, calls-limit, calls-format}
 use Rattle.file_format.specs.File.{write-file, write-calls}
 use Rattle.file_format.specs.Places.{count-at}
 use Rattle.file_format.specs.Answers.{one-more, over}
@@ -117,32 +117,25 @@ module _ (o : Operation) (size w : ℕ) (out mid : List ℕ) (r : Room size w ou
 
 -- ---- what the functions cite
 
--- a reward or a penalty
-pub amount-ready : (size n : ℕ) (out mid : List ℕ) (code i amount : ℕ) → Opened size 7 out n → n ≡ 0
-    → mid ≡ put out (size / 4 - 1) (word 9 code ∷ amount-fields .write (i, amount)) → Ready size 7 mid
-unfolding number
-amount-ready size n out mid code i amount p z e =
-    ready size 7 out mid (word 9 code ∷ amount-fields .write (i, amount)) (p .room z) refl e
-
 module _ (o : Operation) (size w n : ℕ) (out mid : List ℕ) (p : Opened size w out n) (z : n ≡ 0) (f : Fits o w)
     (e : mid ≡ put out (size / 4 - 1) (call .write o)) where
   pub call-ready : Ready size w mid
   call-ready = ready size w out mid (call .write o) (p .room z) (f .words) e
 
   -- the promise, where the call was stored
-  pub added-done : (last : List ℕ) (m l : ℕ) → last ≡ closed mid (size / 4 - 1 + w) → m ≡ 0 → l ≡ size + w * 4
-      → Added o size out last m l
-  added-done last m l c d s =
+  pub added-done : (last : List ℕ) (m l : ℕ)
+      → (last ≡ closed mid (size / 4 - 1 + w)) × (m ≡ 0) × (l ≡ size + w * 4) → Added o size out last m l
+  added-done last m l c =
       let r = p .room z in
       let there = held size out in
       let file = closed-file o size w out mid r f e in
       let more = more-size o size out there (r .holds) w f (r .few) in
       record {
-        number = d ∙ sym z ∙ p .number o f;
+        number = c .1 ∙ sym z ∙ p .number o f;
         done = λ x os h.
             let q : there ≡ os = some-same (sym (r .holds .read) ∙ h) in (
-              c ∙ file ∙ ap (λ xs. over (write-calls (one-more xs o)) out) q,
-              s ∙ sym more ∙ ap (λ xs. length (write-calls (one-more xs o))) q,
+              c .0 ∙ file ∙ ap (λ xs. over (write-calls (one-more xs o)) out) q,
+              c .2 ∙ sym more ∙ ap (λ xs. length (write-calls (one-more xs o))) q,
             );
-        refused = λ x. absurd (x d);
+        refused = λ x. absurd (x (c .1));
       }

@@ -12,7 +12,8 @@ same-length : tie.Need-same-length
 same-length c = search needs
 
 returns : tie.Need-returns
-returns c = search (added-refused, turn-fits, needs)
+returns c =
+    added-refused _ _ _ _ _ (c .before .«open» .ensures) turn-fits (c .if1 .taken)
 
 sub-k : tie.Need-sub-k
 sub-k c = search (open-place, needs)
@@ -21,13 +22,22 @@ put-code-requires : tie.Need-put-code-requires
 put-code-requires c κs = search (open-room, needs)
 
 close-requires : tie.Need-close-requires
-close-requires c κs = search (call-ready, turn-fits, turn-put, needs)
+close-requires c κs =
+    let stored = c .before .before .before in
+    let opened = stored .before .before in
+    call-ready _ _ _ _ _ _ (opened .before .«open» .ensures) (opened .if1 .left) turn-fits
+    (turn-put _ _ _ (stored .put-code .ensures))
 
 same-length-2 : tie.Need-same-length-2
 same-length-2 c = search needs
 
 returns-2 : tie.Need-returns-2
-returns-2 c = search (added-done, turn-fits, turn-put, needs)
+returns-2 c =
+    let ended = c .before .before in
+    let stored = ended .before .before .before .before in
+    let opened = stored .before .before in
+    added-done _ _ _ _ _ _ (opened .before .«open» .ensures) (opened .if1 .left) turn-fits
+    (turn-put _ _ _ (stored .put-code .ensures)) _ _ _ (ended .close .ensures)
 
 pub add-turn-spec : {M : Type 1} → statement M
 add-turn-spec =

@@ -20,7 +20,8 @@ same-length : tie.Need-same-length
 same-length c = search needs
 
 returns : tie.Need-returns
-returns c = search (added-refused, fine, needs)
+returns c =
+    added-refused _ _ _ _ _ (c .before .«open» .ensures) (fine (c .before .before .before .before)) (c .if1 .taken)
 
 sub-k : tie.Need-sub-k
 sub-k c = search (open-place, needs)
@@ -40,7 +41,13 @@ same-length-2 : tie.Need-same-length-2
 same-length-2 c = search needs
 
 returns-2 : tie.Need-returns-2
-returns-2 c = search (added-done, fine, needs)
+returns-2 c =
+    let ended = c .before .before in
+    let stored = ended .before .before .before .before in
+    let opened = stored .before .before in
+    let start = opened .before .before .before .before in
+    added-done _ _ _ _ _ _ (opened .before .«open» .ensures) (opened .if1 .left) (fine start)
+    (stored .put-request .ensures) _ _ _ (ended .close .ensures)
 
 pub add-withdrawal-request-spec : {M : Type 1} → statement M
 add-withdrawal-request-spec =

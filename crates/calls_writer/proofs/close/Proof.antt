@@ -31,7 +31,13 @@ same-length : tie.Need-same-length
 same-length c = search needs
 
 returns : tie.Need-returns
-returns c = (search (close-made, needs), search needs, search needs)
+returns c =
+    let ended = c .before .before in
+    let raised = ended .before .before .before .before in
+    let counted = raised .before .before in
+    let stored =
+    close-made _ _ _ _ _ (counted .calls-count .ensures) (raised .put-count .ensures) (ended .put-end .ensures) in
+    (stored, search needs, search needs)
 
 pub close-spec : {M : Type 1} → statement M
 close-spec =

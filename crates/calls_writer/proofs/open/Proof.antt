@@ -42,10 +42,24 @@ mul-if4 : tie.Need-mul-if4
 mul-if4 c = search needs
 
 returns-4 : tie.Need-returns-4
-returns-4 c = search (opened-short, small, needs)
+returns-4 c =
+    let few = c .before in
+    let counted = few .before in
+    let good = counted .before .before in
+    let judged = good .before in
+    let within = judged .before .before in
+    opened-short _ _ _ _ _ (small (within .before)) (within .if1 .left) (judged .calls-file-ok .ensures)
+    (good .if2 .left) (counted .calls-count .ensures) (few .if3 .left) (c .if4 .taken)
 
 returns-5 : tie.Need-returns-5
-returns-5 c = search (opened-done, small, needs)
+returns-5 c =
+    let few = c .before in
+    let counted = few .before in
+    let good = counted .before .before in
+    let judged = good .before in
+    let within = judged .before .before in
+    opened-done _ _ _ _ _ (small (within .before)) (within .if1 .left) (judged .calls-file-ok .ensures)
+    (good .if2 .left) (counted .calls-count .ensures) (few .if3 .left) (c .if4 .left)
 
 pub open-spec : {M : Type 1} → statement M
 open-spec =
