@@ -19,7 +19,13 @@ same-length : tie.Need-same-length
 same-length c = search needs
 
 returns-2 : tie.Need-returns-2
-returns-2 c = search (begun-done, needs)
+returns-2 c =
+    let ended = c .before .before in
+    let counted = ended .before .before .before .before in
+    let headed = counted .before .before .before .before in
+    let long = headed .before .before in
+    begun-done _ _ _ _ (long .if1 .left) (headed .put-word .ensures) (counted .put-count .ensures)
+    (ended .put-end .ensures)
 
 pub new-calls-spec : {M : Type 1} → statement M
 new-calls-spec =
