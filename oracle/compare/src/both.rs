@@ -203,3 +203,66 @@ fn results_difference(given: &Given, want: &Want) -> Option<String> {
     }
     None
 }
+
+#[cfg(test)]
+mod tests {
+    //! Each part of what the library leaves is really compared.
+    use super::*;
+    use crate::{maker::Maker, step::Lengths};
+    use oracle::books::Call;
+
+    /// Buffers before and after a done turn, what was given and what is wanted.
+    fn turned() -> (Lent, Lent, Given, Want) {
+        for case in 0.. {
+            let (mut maker, books) = Maker::open(1, case, true);
+            let before = maker.lend(&books);
+            let step = Step { spoil: None, ask: Ask::Call(Call::Turn), lengths: Lengths::RIGHT };
+            let want = wanted(&before, Some(&books), &step);
+            let mut after = before.clone();
+            let given = lent::call(&mut after, &step);
+            let full =
+                |table: usize| after.count(table) > 0 && after.tables[table].len() > 8 + past(&after, table);
+            let longer = after.scalars.len() > NUMBERS && after.settings.len() > 19;
+            if given.number == 0 && longer && (0..4).all(full) {
+                return (before, after, given, want);
+            }
+        }
+        unreachable!()
+    }
+
+    fn past(lent: &Lent, table: usize) -> usize {
+        WIDTHS[table] * lent.count(table) as usize
+    }
+
+    #[test]
+    fn every_changed_word_is_noticed() {
+        let (before, after, given, want) = turned();
+        assert_eq!(difference(&before, &after, &given, &want), None);
+        let noticed = |change: &dyn Fn(&mut Lent)| {
+            let mut changed = after.clone();
+            change(&mut changed);
+            difference(&before, &changed, &given, &want).is_some()
+        };
+        assert!((0..after.settings.len()).all(|i| noticed(&|lent| lent.settings[i] ^= 1)));
+        assert!((0..after.scalars.len()).all(|i| noticed(&|lent| lent.scalars[i] ^= 1)));
+        assert!((0..after.identities.len()).all(|i| noticed(&|lent| lent.identities[i] ^= 1)));
+        for table in 0..4 {
+            assert!((0..after.tables[table].len()).all(|i| noticed(&|lent| lent.tables[table][i] ^= 1)));
+        }
+    }
+
+    #[test]
+    fn results_and_refusals_are_compared() {
+        let (before, after, mut given, want) = turned();
+        given.numbers[1] ^= 1;
+        assert!(difference(&before, &after, &given, &want).is_some());
+        given.numbers[1] ^= 1;
+        given.addresses[0] ^= 1;
+        assert!(difference(&before, &after, &given, &want).is_some());
+        given.addresses[0] ^= 1;
+        given.number = 2;
+        let refused = Want { number: 2, ..Want::default() };
+        assert!(difference(&before, &after, &given, &refused).is_some());
+        assert_eq!(difference(&before, &before, &given, &refused), None);
+    }
+}
