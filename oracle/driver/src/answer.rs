@@ -1,8 +1,8 @@
 //! The answer to one call: the tests before it, the rules at both widths, the bounds on its result.
 use crate::{
     acceptance,
-    books::{Books, Call, Withdrawal},
-    engine::{narrow, wide, Outcome},
+    books::{Books, Call, Withdrawal, BOUND},
+    engine::{narrow, wide, Assignment, Outcome},
     trace,
 };
 
@@ -88,13 +88,36 @@ fn compare_widths(books: &Books, call: &Call, buffers: u64) -> Answer {
     answer
 }
 
-/// The expected list; both widths must give the same.
-pub fn expected(books: &Books) -> Result<Vec<Withdrawal>, &'static str> {
+/// The expected list and how many of it are partial withdrawals; both widths must give the same.
+pub fn expected(books: &Books) -> Result<(Vec<Withdrawal>, usize), &'static str> {
     let whole = wide::expected(books);
     if narrow::expected(books) == whole {
         Ok(whole)
     } else {
         Err("64 bits and whole numbers differ in the expected list")
+    }
+}
+
+/// Answer, left and epoch; a refusal returns its number alone. Both assignments of the text must
+/// agree, at both widths, but that the 64-bit text may panic.
+pub fn assign(given: &Assignment) -> Result<(u32, u128, u128), &'static str> {
+    if given.churn == 0 {
+        return Ok((50, 0, 0));
+    }
+    let whole = wide::assign(given).ok_or("the text in whole numbers panicked")?;
+    if whole[0] != whole[1] {
+        return Err("exits and consolidations differ");
+    }
+    match narrow::assign(given) {
+        None => trace::hit("64 bits: the bare assignment panics"),
+        Some(published) if published == whole => {}
+        Some(_) => return Err("64 bits and whole numbers differ"),
+    }
+    let (left, epoch) = whole[0];
+    if epoch > BOUND {
+        Ok((42, 0, 0))
+    } else {
+        Ok((0, left, epoch))
     }
 }
 

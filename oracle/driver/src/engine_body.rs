@@ -12,7 +12,7 @@ use std::{
 };
 
 // The const generics carry nothing here: the lists have no limit, the limits are settings.
-type State = BeaconState<0, 0, 0, 0, 0, 1, 0, 0, 0, 0, 0, 0, 0>;
+pub type State = BeaconState<0, 0, 0, 0, 0, 1, 0, 0, 0, 0, 0, 0, 0>;
 type Payload = ExecutionPayload<0, 0, 0, 0, 16, 0, 0>;
 
 fn number(value: u128) -> Number {
@@ -23,7 +23,7 @@ fn index(value: u128) -> usize {
     value.try_into().expect("an index of accepted books")
 }
 
-fn context(settings: &Settings) -> Context {
+pub fn context(settings: &Settings) -> Context {
     let amount = |position: usize| Number::from(settings[position]);
     let count = |position: usize| settings[position] as usize;
     Context {
@@ -51,7 +51,7 @@ fn context(settings: &Settings) -> Context {
     }
 }
 
-fn state_of(books: &Books) -> State {
+pub fn state_of(books: &Books) -> State {
     let mut state = State::default();
     state.slot = number(books.scalars[scalar::EPOCH]);
     state.next_withdrawal_index = index(books.scalars[scalar::NEXT_WITHDRAWAL_INDEX]);
@@ -217,7 +217,8 @@ fn message_of(payload: &Box<dyn Any + Send>) -> String {
     owned.or_else(|| payload.downcast_ref::<&str>().map(|text| text.to_string())).unwrap_or_default()
 }
 
-fn apply(state: &mut State, call: &Call, context: &Context) -> Result<(), Error> {
+/// One call of the text on its own state.
+pub fn apply(state: &mut State, call: &Call, context: &Context) -> Result<(), Error> {
     match call {
         Call::Reward { validator, amount } => {
             increase_balance(state, *validator as usize, Number::from(*amount));
@@ -290,16 +291,16 @@ fn turn(state: &mut State, context: &Context) -> Result<(), Error> {
     Ok(())
 }
 
-pub fn expected(books: &Books) -> Vec<crate::books::Withdrawal> {
-    let (list, _) = get_expected_withdrawals(&state_of(books), &context(&books.settings));
-    list.into_iter()
-        .map(|record| crate::books::Withdrawal {
-            index: record.index as u64,
-            validator: record.validator_index as u64,
-            address: record.address.0,
-            amount: record.amount as u64,
-        })
-        .collect()
+/// The expected list, and how many of it are partial withdrawals.
+pub fn expected(books: &Books) -> (Vec<crate::books::Withdrawal>, usize) {
+    let (list, partials) = get_expected_withdrawals(&state_of(books), &context(&books.settings));
+    let record = |record: Withdrawal| crate::books::Withdrawal {
+        index: record.index as u64,
+        validator: record.validator_index as u64,
+        address: record.address.0,
+        amount: record.amount as u64,
+    };
+    (list.into_iter().map(record).collect(), partials)
 }
 
 /// Left and epoch of the assignment for exits and of the one for consolidations, over states

@@ -12,11 +12,12 @@ pub fn fill_marker(books: &Books, call: &mut Call) {
     let [Withdrawal { index: u64::MAX, validator, .. }] = list.as_slice() else { return };
     let miss = u64::MAX - *validator;
     if miss <= 7 {
-        *list = near_miss(books, wide::expected(books), miss);
+        *list = near_miss(books, wide::expected(books).0, miss);
     }
 }
 
-fn near_miss(books: &Books, mut list: Vec<Withdrawal>, miss: u64) -> Vec<Withdrawal> {
+/// The k-th near miss of the expected list.
+pub fn near_miss(books: &Books, mut list: Vec<Withdrawal>, miss: u64) -> Vec<Withdrawal> {
     match miss {
         1 => {
             list.pop();

@@ -1,18 +1,15 @@
 //! The oracle: reads opening.w and calls.w as document 01's program `books` does and prints what
 //! that prints. The rules are the text of docs/src; the file, what is accepted, the bounds 40, 41
 //! and 42 and the total stand here. Status 0, also after a refusal; 3 if a self-check failed.
-mod acceptance;
-mod answer;
-mod books;
-mod engine;
-mod file;
-mod fill;
 mod options;
-mod trace;
 
-use books::{Books, Call, Withdrawal, BOUND};
-use engine::Assignment;
 use options::{Mode, Options};
+use oracle::{
+    acceptance, answer,
+    books::{Books, Call, Withdrawal},
+    engine::Assignment,
+    file, fill, trace,
+};
 use std::{
     fs,
     io::{self, BufRead, Write},
@@ -66,7 +63,7 @@ fn run(options: &Options) -> bool {
     let (books, mut table, mut failed) = carry_out(options, opening, &calls);
     if options.expected {
         match answer::expected(&books) {
-            Ok(list) => list.iter().for_each(|record| table += &expected_line(record)),
+            Ok((list, _)) => list.iter().for_each(|record| table += &expected_line(record)),
             Err(failure) => {
                 eprintln!("self-check failed: {failure}");
                 failed = true;
@@ -159,7 +156,7 @@ fn assignments() -> bool {
             panic!("five numbers a line: {line}");
         };
         let given = Assignment { left, earliest, activation_exit, churn, amount };
-        match assign(&given) {
+        match answer::assign(&given) {
             Ok((number, left, epoch)) => {
                 trace::hit(format!("answer: assignment {number}"));
                 println!("{number} {left} {epoch}");
@@ -171,27 +168,4 @@ fn assignments() -> bool {
         }
     }
     failed
-}
-
-/// Answer, left and epoch; a refusal returns its number alone. Both assignments of the text must
-/// agree, at both widths, but that the 64-bit text may panic.
-fn assign(given: &Assignment) -> Result<(u32, u128, u128), &'static str> {
-    if given.churn == 0 {
-        return Ok((50, 0, 0));
-    }
-    let whole = engine::wide::assign(given).ok_or("the text in whole numbers panicked")?;
-    if whole[0] != whole[1] {
-        return Err("exits and consolidations differ");
-    }
-    match engine::narrow::assign(given) {
-        None => trace::hit("64 bits: the bare assignment panics"),
-        Some(published) if published == whole => {}
-        Some(_) => return Err("64 bits and whole numbers differ"),
-    }
-    let (left, epoch) = whole[0];
-    if epoch > BOUND {
-        Ok((42, 0, 0))
-    } else {
-        Ok((0, left, epoch))
-    }
 }

@@ -1,0 +1,169 @@
+//! The books that are measured, as the library and as the Rust hold them.
+use oracle::{
+    books as held,
+    engine::narrow::{context, state_of, State},
+};
+use rules64::electra::Context;
+use solarbasil::{
+    Books, Limits, PendingBalanceDeposit, PendingConsolidation, PendingPartialWithdrawal, Scalars, Settings,
+    Validator,
+};
+
+pub const G: u64 = 1_000_000_000;
+pub const EPOCH: u64 = 100_000;
+
+/// The address of every validator, so that any two may be consolidated.
+pub const ADDRESS: [u8; 20] = [0x5A; 20];
+
+pub struct Both {
+    pub ours: Books,
+    pub state: State,
+    pub context: Context,
+}
+
+pub fn key(number: u64) -> [u8; 48] {
+    let mut key = [0x11; 48];
+    key[40..].copy_from_slice(&number.to_be_bytes());
+    key
+}
+
+pub fn credentials(prefix: u8) -> [u8; 32] {
+    let mut bytes = [0; 32];
+    bytes[0] = prefix;
+    bytes[12..].copy_from_slice(&ADDRESS);
+    bytes
+}
+
+/// Mainnet with an activation-exit churn of 64 G, so that there is churn for consolidations.
+fn settings() -> Settings {
+    let limits = Limits { registry: 65_536, deposits: 65_536, partials: 65_536, consolidations: 65_536 };
+    let mut settings = Settings::mainnet(limits);
+    settings.max_per_epoch_activation_exit_churn_limit = 64 * G;
+    settings
+}
+
+/// One of 64 has left and is withdrawable, one of 64 has an excess to sweep; half compound, and these hold 40 G. The
+/// last two are as any that can exit and consolidate.
+fn validator(i: u64, count: u64) -> Validator {
+    let last = i + 2 >= count;
+    let left = i % 64 == 7 && !last;
+    let swept = i % 64 == 39 && !last;
+    let compounding = (i % 2 == 0 || last) && !swept;
+    let balance = if compounding { 40 * G } else { 32 * G };
+    Validator {
+        public_key: key(i),
+        withdrawal_credentials: credentials(if compounding { 2 } else { 1 }),
+        slashed: false,
+        effective_balance: 32 * G,
+        activation_eligibility_epoch: 0,
+        activation_epoch: 0,
+        exit_epoch: if left { EPOCH - 300 } else { u64::MAX },
+        withdrawable_epoch: if left { EPOCH - 10 } else { u64::MAX },
+        balance: if left { 0 } else { balance + u64::from(swept) * G },
+    }
+}
+
+/// Deposits of 1 G for one validator in 16, of which the carry pays for half; a partial for one in 16; consolidations
+/// of the validators that have left, one in 64, into their neighbours, the half of which is ready.
+pub fn make(count: u64) -> Both {
+    let scalars = Scalars {
+        epoch: EPOCH,
+        deposit_receipts_start_index: 0,
+        deposit_balance_to_consume: count / 32 * G,
+        ..Scalars::default()
+    };
+    let mut ours = Books::new(&settings(), &scalars);
+    for i in 0..count {
+        ours.push_validator(&validator(i, count)).expect("room");
+    }
+    for i in 0..count / 16 {
+        ours.push_deposit(&PendingBalanceDeposit { index: 16 * i + 1, amount: G }).expect("room");
+        let partial =
+            PendingPartialWithdrawal { index: 16 * i + 2, amount: G, withdrawable_epoch: EPOCH - 1 };
+        ours.push_partial(&partial).expect("room");
+    }
+    for i in 0..count / 64 {
+        // the middle one is not ready: its source stays
+        let ready = i != count / 128;
+        let source_index = 64 * i + if ready { 7 } else { 8 };
+        let entry = PendingConsolidation { source_index, target_index: 64 * i + 9 + i % 4 };
+        ours.push_consolidation(&entry).expect("room");
+    }
+    let held = held(&ours);
+    Both { context: context(&held.settings), state: state_of(&held), ours }
+}
+
+/// The same books as the oracle holds them.
+pub fn held(ours: &Books) -> held::Books {
+    let s = settings();
+    let scalars = ours.scalars();
+    held::Books {
+        settings: [
+            s.min_activation_balance,
+            s.max_effective_balance_electra,
+            s.effective_balance_increment,
+            s.min_per_epoch_churn_limit_electra,
+            s.max_per_epoch_activation_exit_churn_limit,
+            s.churn_limit_quotient,
+            s.shard_committee_period,
+            s.min_validator_withdrawability_delay,
+            s.max_seed_lookahead,
+            s.hysteresis_quotient,
+            s.hysteresis_downward_multiplier,
+            s.hysteresis_upward_multiplier,
+            s.max_pending_partials_per_withdrawals_sweep,
+            s.max_withdrawals_per_payload,
+            s.max_validators_per_withdrawals_sweep,
+            s.limits.registry,
+            s.limits.deposits,
+            s.limits.partials,
+            s.limits.consolidations,
+        ],
+        scalars: [
+            scalars.epoch,
+            scalars.next_withdrawal_index,
+            scalars.next_withdrawal_validator_index,
+            scalars.deposit_receipts_start_index,
+            scalars.deposit_balance_to_consume,
+            scalars.exit_balance_to_consume,
+            scalars.earliest_exit_epoch,
+            scalars.consolidation_balance_to_consume,
+            scalars.earliest_consolidation_epoch,
+        ]
+        .map(u128::from),
+        validators: ours
+            .validators()
+            .iter()
+            .map(|v| held::Validator {
+                key: v.public_key,
+                credentials: v.withdrawal_credentials,
+                slashed: v.slashed,
+                effective: v.effective_balance.into(),
+                eligibility: v.activation_eligibility_epoch.into(),
+                activation: v.activation_epoch.into(),
+                exit: v.exit_epoch.into(),
+                withdrawable: v.withdrawable_epoch.into(),
+                balance: v.balance.into(),
+            })
+            .collect(),
+        deposits: ours
+            .deposits()
+            .iter()
+            .map(|d| held::Deposit { index: d.index.into(), amount: d.amount.into() })
+            .collect(),
+        partials: ours
+            .partials()
+            .iter()
+            .map(|p| held::Partial {
+                index: p.index.into(),
+                amount: p.amount.into(),
+                epoch: p.withdrawable_epoch.into(),
+            })
+            .collect(),
+        consolidations: ours
+            .consolidations()
+            .iter()
+            .map(|c| held::Consolidation { source: c.source_index.into(), target: c.target_index.into() })
+            .collect(),
+    }
+}

@@ -1,0 +1,101 @@
+//! One step of a case: what is asked, the lengths of the buffers lent with it, and what is spoiled before it.
+use crate::lent::{Lent, NUMBERS};
+use oracle::{books::Call, engine::Assignment};
+
+#[derive(Clone, Debug)]
+pub enum Ask {
+    Call(Call),
+    Expected,
+    Total,
+    Assignment(Assignment),
+}
+
+/// Lengths of what a call is handed besides the books: bytes of a key, credentials and an address, numbers and bytes
+/// of a list of withdrawals.
+#[derive(Clone, Copy, Debug)]
+pub struct Lengths {
+    pub key: usize,
+    pub credentials: usize,
+    pub address: usize,
+    pub records: usize,
+    pub addresses: usize,
+}
+
+impl Lengths {
+    pub const RIGHT: Lengths =
+        Lengths { key: 48, credentials: 32, address: 20, records: 3 * 16, addresses: 20 * 16 };
+}
+
+/// A change of the lent buffers that mostly makes them unsound.
+#[derive(Clone, Copy, Debug)]
+pub enum Spoil {
+    Setting(usize, u64),
+    SettingsLength(usize),
+    /// one of the scalars or counts
+    Scalar(usize, u64),
+    ScalarsLength(usize),
+    IdentitiesLength(usize),
+    TableLength(usize, usize),
+    /// a word of a table
+    Word(usize, usize, u64),
+}
+
+impl Spoil {
+    pub fn apply(self, lent: &mut Lent) {
+        match self {
+            Spoil::Setting(position, value) => lent.settings[position] = value,
+            Spoil::SettingsLength(length) => cut(&mut lent.settings, length),
+            Spoil::Scalar(position, value) => lent.scalars[position] = value,
+            Spoil::ScalarsLength(length) => cut(&mut lent.scalars, length),
+            Spoil::IdentitiesLength(length) => cut(&mut lent.identities, length),
+            Spoil::TableLength(table, length) => cut(&mut lent.tables[table], length),
+            Spoil::Word(table, position, value) => lent.tables[table][position] = value,
+        }
+    }
+}
+
+fn cut<T>(buffer: &mut Vec<T>, length: usize) {
+    buffer.truncate(length);
+    buffer.shrink_to_fit();
+}
+
+#[derive(Clone, Debug)]
+pub struct Step {
+    pub spoil: Option<Spoil>,
+    pub ask: Ask,
+    pub lengths: Lengths,
+}
+
+impl Step {
+    pub fn name(&self) -> &'static str {
+        match &self.ask {
+            Ask::Call(Call::Reward { .. }) => "reward",
+            Ask::Call(Call::Penalty { .. }) => "penalty",
+            Ask::Call(Call::Receipt { .. }) => "receipt",
+            Ask::Call(Call::Exit { .. }) => "exit",
+            Ask::Call(Call::Request { .. }) => "request",
+            Ask::Call(Call::Consolidation { .. }) => "consolidation",
+            Ask::Call(Call::Turn) => "turn",
+            Ask::Call(Call::Withdrawals(_)) => "withdrawals",
+            Ask::Call(Call::DepositStep) => "deposit step",
+            Ask::Call(Call::ConsolidationStep) => "consolidation step",
+            Ask::Call(Call::EffectiveStep) => "effective step",
+            Ask::Expected => "expected list",
+            Ask::Total => "total",
+            Ask::Assignment(_) => "assignment",
+        }
+    }
+
+    /// A slice of a wrong length, the tables aside.
+    pub fn unfit(&self, lent: &Lent) -> bool {
+        let Lengths { key, credentials, address, records, addresses } = self.lengths;
+        let own = match &self.ask {
+            Ask::Call(Call::Receipt { .. }) => key != 48 || credentials != 32,
+            Ask::Call(Call::Request { .. }) => address != 20 || key != 48,
+            Ask::Call(Call::Withdrawals(list)) => records < 3 * list.len() || addresses < 20 * list.len(),
+            Ask::Expected => records < 3 * 16 || addresses < 20 * 16,
+            _ => false,
+        };
+        own || lent.scalars.len() < NUMBERS
+    }
+}
