@@ -7,7 +7,7 @@ use Rattle.lists.specs.Base.{every}
 use Rattle.tables.specs.Rows.{rows, length-rows}
 use Rattle.rules.specs.Types.{BOUND, Settings, Validator}
 use Rattle.rules.specs.Types.{PendingBalanceDeposit, PendingPartialWithdrawal, PendingConsolidation}
-use Rattle.rules.specs.Acceptance.{sound-books, consolidation-in}
+use Rattle.rules.specs.Acceptance.{sound-books, held, consolidation-in}
 use Rattle.primitives.specs.declared.Scalars.{Scalars}
 use Rattle.records.specs.Layout.{validator-at, deposit-at, partial-at, consolidation-at}
 use Rattle.records.specs.Books.{Tables, books-of}
@@ -61,6 +61,11 @@ module _ (S : Settings) (s : Scalars) (t : Tables) where
   pub partials-refused : (sum : ℕ) → Partials sum → BOUND < sum → false ≡ sound-books S (books-of s t)
   unfolding books-of
   partials-refused = lists.partials-refused S s _ _ _ _ counted
+
+  pub held-known : (start sum : ℕ) → Balances start → start ≤ BOUND → Held start sum → sum ≤ BOUND
+      → sum ≡ held (books-of s t)
+  unfolding books-of
+  held-known = lists.held-known S s _ _ _ _ counted
 
   -- the passes before the last found nothing: the last decides
   pub consolidations-decide : (start sum amounts : ℕ) (last : Bool) → scalars-within S s ≡ true

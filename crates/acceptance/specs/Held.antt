@@ -1,18 +1,32 @@
--- What `held` needs: the two tables, and that their sum is within the bound.
-use mathlib.Core.Path.{_≡_, refl, ap₂}
+-- What books hold: as the tests find it, and what `held` needs.
+use mathlib.Core.Path.{_≡_, refl, ap₂, _∙_}
+use mathlib.Core.Bool.{false}
 use mathlib.Core.List.{List}
-use Prim.Native.Nat.{ℕ, _+_, _≤_}
+use Prim.Native.Nat.{ℕ, _+_, _≤_, _<_}
 use native.Mathlib.Omega.{arith}
+use lib.Dec.{leb}
+use borrow.Author.Tests.{lt-leb}
 use Rattle.lists.specs.Base.{total}
 use Rattle.tables.specs.Rows.{rows}
 use Rattle.tables.specs.Totals.{total-ext}
-use Rattle.rules.specs.Types.{BOUND, Settings}
-use Rattle.rules.specs.Acceptance.{held}
+use Rattle.rules.specs.Types.{BOUND, Settings, Books}
+use Rattle.rules.specs.Acceptance.{sound-books, held}
 use Rattle.rule_laws.specs.Accepted.{SoundBooks}
 use Rattle.primitives.specs.declared.Scalars.{Scalars}
 use Rattle.records.specs.Layout.{validator-at, deposit-at, balance-at, validators-fit, deposits-fit}
 use Rattle.records.specs.Books.{Tables, books-of}
 use Rattle.records.specs.Reading.{EnoughRoom, validators-count, deposits-count}
+
+-- a number within the bound is the sum of sound books; one over it says that they are unsound
+pub record BooksHeld (S : Settings) (b : Books) (sum : ℕ) : Type 0 where
+  pub sound : leb sum BOUND ≡ sound-books S b
+  pub sum-of : sum ≤ BOUND → sum ≡ held b
+
+pub none-held : (S : Settings) (b : Books) (sum : ℕ) → BOUND < sum → false ≡ sound-books S b → BooksHeld S b sum
+none-held S b sum h e = record {
+  sound = lt-leb sum BOUND h ∙ e;
+  sum-of = λ k. let z : ⊥ = omega arith in absurd z;
+}
 
 -- the first n balances of a table
 abbrev pub balances-in : ℕ → List ℕ → ℕ

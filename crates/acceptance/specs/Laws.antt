@@ -2,7 +2,7 @@
 use mathlib.Core.Path.{_≡_, refl, sym, ap, _∙_}
 use mathlib.Core.Bool.{Bool, true, false, _&&_}
 use mathlib.Core.List.{List, [], _∷_}
-use Prim.Native.Nat.{ℕ, _+_, _≤_, _<_, min}
+use Prim.Native.Nat.{ℕ, _+_, _-_, _≤_, _<_, min}
 use native.Mathlib.Omega.{arith}
 use lib.ListN.{drop}
 use lib.Dec.{leb}
@@ -47,6 +47,14 @@ leb-both a m n =
     (λ e.
     let p = leb-true a (min m n) e in
     join (le-leb a m (omega arith)) (le-leb a n (omega arith)))
+
+-- a sum below a bound, without the sum
+pub leb-shift : (x y n : ℕ) → y ≤ n → leb x (n - y) ≡ leb (x + y) n
+leb-shift x y n h = go (leb (x + y) n) refl
+  where
+    go : (t : Bool) → leb (x + y) n ≡ t → leb x (n - y) ≡ t
+    go true e = le-leb x (n - y) (omega (arith, leb-true (x + y) n e))
+    go false e = lt-leb x (n - y) (omega (arith, leb-false (x + y) n e))
 
 -- every element passes two tests
 pub every-both : {A : Type 0} (t u : A → Bool) (xs : List A)

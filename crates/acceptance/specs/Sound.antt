@@ -238,6 +238,14 @@ module _ (S : Settings) (s : Scalars) (vs : List Validator) (ds : List PendingBa
   pub partials-refused : (sum : ℕ) → PartialsSum s ps sum → BOUND < sum → false ≡ sound-books S books
   partials-refused sum e h = refuse (λ k. omega (arith, partials-sum sum e k, k .partials-small))
 
+  -- the sum of the first two passes, where they found nothing
+  pub held-known : (start sum : ℕ) → BalancesSum S vs start → start ≤ BOUND → HeldSum s ds start sum → sum ≤ BOUND
+      → sum ≡ held books
+  held-known start sum b b-small h h-small =
+      let v = tested-facts _ _ _ _ (subst (λ x. x ≤ BOUND) b b-small) in
+      let d = tested-facts _ _ _ _ (subst (λ x. x ≤ BOUND) h h-small) in
+      omega (arith, b, v .1, h, d .1)
+
   -- the passes before the last found nothing: the last decides
   pub consolidations-decide : (start sum amounts : ℕ) (last : Bool) → scalars-within S s ≡ true
       → BalancesSum S vs start → start ≤ BOUND → HeldSum s ds start sum → sum ≤ BOUND
@@ -260,6 +268,6 @@ module _ (S : Settings) (s : Scalars) (vs : List Validator) (ds : List PendingBa
             deposits = d .0;
             partials = q .0;
             consolidations = sym e ∙ r;
-            held-small = omega (arith, b, v .1, h, d .1, h-small);
+            held-small = omega (arith, held-known start sum b b-small h h-small, h-small);
             partials-small = omega (arith, p, q .1, p-small);
           }))

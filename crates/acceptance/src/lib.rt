@@ -12,13 +12,15 @@ use records::registry;
 ghost use mathlib.Core.Path.{_≡_};
 ghost use mathlib.Core.Bool.{true};
 ghost use mathlib.Core.List.{List};
-ghost use Prim.Native.Nat.{ℕ};
-ghost use Rattle.rules.specs.Acceptance.{sound-settings, sound-books, held};
+ghost use Prim.Native.Nat.{ℕ, _+_, _≤_};
+ghost use lib.Dec.{leb};
+ghost use Rattle.rules.specs.Types as rule;
+ghost use Rattle.rules.specs.Acceptance.{sound-settings, held};
 ghost use Rattle.rules.specs.Calls.{enough-room, handed-refusal};
 ghost use Rattle.primitives.specs.Settings.{settings-of};
 ghost use Rattle.records.specs.Books.{tables, books-of, room-of};
 ghost use Rattle.acceptance.specs.Tests.{scalars-within};
-ghost use Rattle.acceptance.specs.Held.{HeldReady};
+ghost use Rattle.acceptance.specs.Held.{BooksHeld, HeldReady};
 
 // The most that the first five settings may be: 2^44.
 const MOST_GWEI: u64 = 0x1000_0000_0000;
@@ -110,8 +112,9 @@ pub fn scalars_within(settings: Settings, scalars: Scalars) -> bool
         & (scalars.earliest_consolidation_epoch.0 <= BOUND)
 }
 
-// The scalars first: they say how many records each pass may read.
-pub fn books_sound(
+// What sound books hold; BOUND + 1 where the books are unsound. The scalars first: they say how many records each pass
+// may read.
+pub fn books_held(
     settings: Settings,
     scalars: Scalars,
     identities: &[u8],
@@ -119,39 +122,112 @@ pub fn books_sound(
     deposits: &[u64],
     partials: &[u64],
     consolidations: &[u64],
-) -> bool
+) -> Gwei
     requires { ⌜
         enough-room (settings-of settings)
         (room-of (tables (now identities) (now validators) (now deposits) (now partials) (now consolidations)))
         ≡ true
         ⌝ }
     ensures { λ r. ⌜
-        r
-        ≡ sound-books (settings-of settings)
+        BooksHeld (settings-of settings)
         (books-of scalars (tables (now (identities .entry)) (now (validators .entry)) (now (deposits .entry))
-        (now (partials .entry)) (now (consolidations .entry))))
+        (now (partials .entry)) (now (consolidations .entry)))) (r .0)
         ⌝ }
 {
     if !scalars_within(settings, scalars) {
-        return false;
+        return Gwei(BOUND + 1);
     }
     let n = scalars.validators;
     let balances = passes::validators_sum(settings.max_effective_balance_electra, validators, n);
     if balances.0 > BOUND {
-        return false;
+        return balances;
     }
     let held = passes::deposits_sum(balances, deposits, scalars.deposits, n);
     if held.0 > BOUND {
-        return false;
+        return held;
     }
     let amounts = passes::partials_sum(partials, scalars.partials, n);
     if amounts.0 > BOUND {
-        return false;
+        return amounts;
     }
-    passes::consolidations_in(consolidations, scalars.consolidations, n)
+    if !passes::consolidations_in(consolidations, scalars.consolidations, n) {
+        return Gwei(BOUND + 1);
+    }
+    held
 }
 
-// The number that what is handed in is refused with: 1, 3, 2 in this order, or 0.
+// The number that what is handed in is refused with, 1, 3, 2 in this order, and 0 for the sum; or 0, and the sum that
+// the books hold.
+pub struct Acceptance {
+    pub number: u8,
+    pub held: Gwei,
+}
+
+fn refused(number: u8) -> Acceptance
+    ensures { λ r. ⌜ r .number ≡ number ⌝ }
+{
+    Acceptance {
+        number,
+        held: Gwei(0),
+    }
+}
+
+pub fn accept(
+    settings: Settings,
+    scalars: Scalars,
+    identities: &[u8],
+    validators: &[u64],
+    deposits: &[u64],
+    partials: &[u64],
+    consolidations: &[u64],
+) -> Acceptance
+    ensures { λ r. ⌜
+        r .number
+        ≡ handed-refusal (settings-of settings)
+        (books-of scalars (tables (now (identities .entry)) (now (validators .entry)) (now (deposits .entry))
+        (now (partials .entry)) (now (consolidations .entry))))
+        (room-of (tables (now (identities .entry)) (now (validators .entry)) (now (deposits .entry))
+        (now (partials .entry)) (now (consolidations .entry))))
+        ⌝ }
+    ensures { λ r. ⌜
+        (r .number ≡ 0
+        → r .held .0
+        ≡ held (books-of scalars (tables (now (identities .entry)) (now (validators .entry)) (now (deposits .entry))
+        (now (partials .entry)) (now (consolidations .entry)))))
+        ⌝ }
+{
+    if !settings_sound(settings) {
+        return refused(answers::UNSOUND_SETTINGS);
+    }
+    if !enough_room(
+        settings,
+        identities,
+        validators,
+        deposits,
+        partials,
+        consolidations,
+    ) {
+        return refused(answers::SHORT_BUFFER);
+    }
+    let held = books_held(
+        settings,
+        scalars,
+        identities,
+        validators,
+        deposits,
+        partials,
+        consolidations,
+    );
+    if held.0 > BOUND {
+        return refused(answers::UNSOUND_BOOKS);
+    }
+    Acceptance {
+        number: answers::DONE,
+        held,
+    }
+}
+
+// The number alone.
 pub fn handed(
     settings: Settings,
     scalars: Scalars,
@@ -170,20 +246,7 @@ pub fn handed(
         (now (partials .entry)) (now (consolidations .entry))))
         ⌝ }
 {
-    if !settings_sound(settings) {
-        return answers::UNSOUND_SETTINGS;
-    }
-    if !enough_room(
-        settings,
-        identities,
-        validators,
-        deposits,
-        partials,
-        consolidations,
-    ) {
-        return answers::SHORT_BUFFER;
-    }
-    if !books_sound(
+    let acceptance = accept(
         settings,
         scalars,
         identities,
@@ -191,10 +254,8 @@ pub fn handed(
         deposits,
         partials,
         consolidations,
-    ) {
-        return answers::UNSOUND_BOOKS;
-    }
-    answers::DONE
+    );
+    acceptance.number
 }
 
 // Balances plus waiting deposits.
@@ -210,4 +271,12 @@ pub fn held(scalars: Scalars, validators: &[u64], deposits: &[u64]) -> Gwei
     let amounts = passes::deposit_amounts(deposits, scalars.deposits);
     let held = balances.0 + amounts.0;
     Gwei(held)
+}
+
+// Whether the sum stays within BOUND with `amount` more.
+pub fn sum_within(held: Gwei, amount: Gwei) -> bool
+    requires { ⌜ held .0 ≤ rule.BOUND ⌝ }
+    ensures { λ r. ⌜ r ≡ leb (held .0 + amount .0) rule.BOUND ⌝ }
+{
+    amount.0 <= BOUND - held.0
 }

@@ -1,13 +1,13 @@
 -- Demand 3 of the code. A list of public calls, each handed the books that the last one left, in the same buffers or in
 -- others. What is known of each is its own promise, `Called`, and nothing else.
-use mathlib.Core.Path.{_≡_, refl, sym, ap, ap₂, subst, _∙_}
+use mathlib.Core.Path.{_≡_, refl, ap, ap₂, _∙_}
 use mathlib.Core.List.{List, [], _∷_, _++_}
 use Prim.Native.Nat.{ℕ, _+_, _≤_}
 use Rattle.rules.specs.Types.{Settings, Books}
 use Rattle.rules.specs.Acceptance.{held, deposit-amounts}
-use Rattle.rules.specs.Calls.{Operation, Call, answer, answers, after, run}
+use Rattle.rules.specs.Calls.{Operation, Call, answers, run}
 use Rattle.rules.specs.Counting.{counted}
-use Rattle.conservation.specs.Demand3.{Demand3, demand-3}
+use Rattle.conservation.specs.Demand3.{demand-3}
 use Rattle.primitives.specs.declared.Scalars.{Scalars}
 use Rattle.records.specs.Books.{Tables, books-of, call-on, Called}
 

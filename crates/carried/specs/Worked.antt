@@ -1,5 +1,5 @@
 -- The worked list of calls, in which no term is 0, carried out by the public calls on buffers that hold its opening.
-use mathlib.Core.Path.{_≡_, sym, ap, _∙_}
+use mathlib.Core.Path.{_≡_, ap, _∙_}
 use mathlib.Core.List.{List, [], _∷_}
 use Prim.Native.Nat.{ℕ, _*_}
 use Rattle.rules.specs.Acceptance.{held}

@@ -1,4 +1,1 @@
-pub mod Public
-pub mod Rewards
 pub mod Total
-pub mod Epoch

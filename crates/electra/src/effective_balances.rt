@@ -3,7 +3,6 @@ use primitives::Outcome;
 use primitives::Scalars;
 use primitives::Settings;
 use primitives::answers;
-ghost use mathlib.Core.Path.{_≡_};
 ghost use Rattle.rules.specs.Calls.{effective-balance-updates};
 ghost use Rattle.primitives.specs.Settings.{settings-of};
 ghost use Rattle.records.specs.Books.{tables, Called};

@@ -1,62 +1,13 @@
 // A reward adds to a balance.
-use primitives::BOUND;
 use primitives::Gwei;
 use primitives::Outcome;
 use primitives::Scalars;
 use primitives::Settings;
 use primitives::ValidatorIndex;
 use primitives::answers;
-ghost use mathlib.Core.Path.{_≡_};
-ghost use Rattle.rules.specs.Calls.{handed-refusal, reward};
+ghost use Rattle.rules.specs.Calls.{reward};
 ghost use Rattle.primitives.specs.Settings.{settings-of};
-ghost use Rattle.records.specs.Books.{tables, books-of, room-of, Called};
-
-// On books that the tests accepted.
-pub fn reward_accepted(
-    settings: Settings,
-    scalars: Scalars,
-    identities: &[u8],
-    validators: &mut [u64],
-    deposits: &[u64],
-    partials: &[u64],
-    consolidations: &[u64],
-    i: ValidatorIndex,
-    amount: Gwei,
-) -> Outcome
-    requires { ⌜
-        handed-refusal (settings-of settings)
-        (books-of scalars
-        (tables (now identities) (now validators) (now deposits) (now partials) (now consolidations)))
-        (room-of (tables (now identities) (now validators) (now deposits) (now partials) (now consolidations)))
-        ≡ 0
-        ⌝ }
-    ensures { λ r. ⌜
-        Called (settings-of settings) (reward (i .0) (amount .0)) scalars
-        (tables (now (identities .entry)) (now (validators .entry)) (now (deposits .entry))
-        (now (partials .entry)) (now (consolidations .entry)))
-        (tables (now (identities .entry)) (now (validators .exit)) (now (deposits .entry))
-        (now (partials .entry)) (now (consolidations .entry))) (r .number) (r .scalars)
-        ⌝ }
-{
-    if scalars.validators <= i.0 {
-        return Outcome {
-            number: answers::NO_SUCH_VALIDATOR,
-            scalars,
-        };
-    }
-    let held = acceptance::held(scalars, validators, deposits);
-    if BOUND - held.0 < amount.0 {
-        return Outcome {
-            number: answers::RESULT_SUMS_OVER_BOUND,
-            scalars,
-        };
-    }
-    records::registry::increase_balance(validators, i, amount);
-    Outcome {
-        number: answers::DONE,
-        scalars,
-    }
-}
+ghost use Rattle.records.specs.Books.{tables, Called};
 
 pub fn reward(
     settings: Settings,
@@ -77,7 +28,7 @@ pub fn reward(
         (now (partials .entry)) (now (consolidations .entry))) (r .number) (r .scalars)
         ⌝ }
 {
-    let handed = acceptance::handed(
+    let handed = acceptance::accept(
         settings,
         scalars,
         identities,
@@ -86,13 +37,14 @@ pub fn reward(
         partials,
         consolidations,
     );
-    if handed != answers::DONE {
+    if handed.number != answers::DONE {
         return Outcome {
-            number: handed,
+            number: handed.number,
             scalars,
         };
     }
-    reward_accepted(
+    let sums = acceptance::sum_within(handed.held, amount);
+    rewards::reward::reward_with_sums(
         settings,
         scalars,
         identities,
@@ -102,5 +54,6 @@ pub fn reward(
         consolidations,
         i,
         amount,
+        sums,
     )
 }

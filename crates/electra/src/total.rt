@@ -46,7 +46,7 @@ pub fn held(
         (now (partials .entry)) (now (consolidations .entry))))
         ⌝ }
 {
-    let handed = acceptance::handed(
+    let handed = acceptance::accept(
         settings,
         scalars,
         identities,
@@ -55,15 +55,15 @@ pub fn held(
         partials,
         consolidations,
     );
-    if handed != answers::DONE {
+    if handed.number != answers::DONE {
         return Total {
-            number: handed,
+            number: handed.number,
             total: Gwei(0),
         };
     }
-    let total = acceptance::held(scalars, validators, deposits);
+    let total = handed.held;
     Total {
-        number: handed,
+        number: handed.number,
         total,
     }
 }

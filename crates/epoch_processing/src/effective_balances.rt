@@ -63,7 +63,7 @@ fn update_effective_balance(
     }
     let most = pending_consolidations::balances::max_effective_balance_at(settings, identities, i);
     let rounded = balance.0 - balance.0 % settings.effective_balance_increment.0;
-    let updated = pending_consolidations::balances::min(Gwei(rounded), most);
+    let updated = primitives::min(Gwei(rounded), most);
     records::registry::set_effective_balance(validators, i, updated);
 }
 

@@ -1,4 +1,5 @@
 pub mod Expected
+pub mod Handed
 pub mod Listing
 pub mod Laws
 pub mod Ready

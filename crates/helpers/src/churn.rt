@@ -3,28 +3,18 @@ use primitives::Gwei;
 use primitives::Scalars;
 use primitives::Settings;
 use primitives::ValidatorIndex;
+use primitives::max;
+use primitives::min;
 ghost use mathlib.Core.Path.{_≡_};
 ghost use mathlib.Core.Bool.{true};
 ghost use mathlib.Core.List.{List};
-ghost use Prim.Native.Nat.{ℕ, min, max};
+ghost use Prim.Native.Nat.{ℕ};
 ghost use Rattle.rules.specs.Helpers.{get-total-active-balance, get-balance-churn-limit};
 ghost use Rattle.rules.specs.Helpers.{get-activation-exit-churn-limit, get-consolidation-churn-limit};
 ghost use Rattle.rules.specs.Acceptance.{sound-settings};
 ghost use Rattle.primitives.specs.Settings.{settings-of};
 ghost use Rattle.records.specs.Books.{tables, books-of};
 ghost use Rattle.helpers.specs.Ready.{Registry};
-
-fn max(a: Gwei, b: Gwei) -> Gwei
-    ensures { λ r. ⌜ r .0 ≡ max (a .0) (b .0) ⌝ }
-{
-    if a.0 < b.0 { b } else { a }
-}
-
-fn min(a: Gwei, b: Gwei) -> Gwei
-    ensures { λ r. ⌜ r .0 ≡ min (a .0) (b .0) ⌝ }
-{
-    if a.0 < b.0 { a } else { b }
-}
 
 pub fn get_total_active_balance(settings: Settings, scalars: Scalars, validators: &[u64]) -> Gwei
     requires { ⌜ Registry scalars (now validators) ⌝ }

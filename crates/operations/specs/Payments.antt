@@ -25,7 +25,7 @@ use Rattle.expected_withdrawals.specs.Ready as listing
 use Rattle.withdrawals.specs.Ready as paying
 use Rattle.withdrawals.specs.Ready.{count-small}
 use Rattle.result_sizes.specs.Block.{withdrawals-size}
-use Rattle.electra.specs.Public.{own-refused, size-refused, call-done}
+use Rattle.call_answers.specs.Called.{own-refused, size-refused, call-done}
 
 module _ (S : rule.Settings) (s : Scalars) (t : Tables) (ws : List rule.Withdrawal)
     (h : handed-refusal S (books-of s t) (room-of t) ≡ 0) where

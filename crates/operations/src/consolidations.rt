@@ -5,7 +5,6 @@ use primitives::Scalars;
 use primitives::Settings;
 use primitives::ValidatorIndex;
 use primitives::answers;
-ghost use mathlib.Core.Path.{_≡_};
 ghost use Rattle.rules.specs.Calls.{consolidation};
 ghost use Rattle.primitives.specs.Settings.{settings-of};
 ghost use Rattle.records.specs.Books.{tables, Called};
@@ -48,7 +47,7 @@ pub fn process_consolidation(
             scalars,
         };
     }
-    block_processing::consolidations::process_consolidation(
+    consolidation_operations::process_consolidation(
         settings,
         scalars,
         identities,

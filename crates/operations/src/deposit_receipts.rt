@@ -4,7 +4,6 @@ use primitives::Outcome;
 use primitives::Scalars;
 use primitives::Settings;
 use primitives::answers;
-ghost use mathlib.Core.Path.{_≡_};
 ghost use Rattle.rules.specs.Calls.{deposit-receipt};
 ghost use Rattle.primitives.specs.Settings.{settings-of};
 ghost use Rattle.records.specs.Books.{tables, Called};
@@ -33,7 +32,7 @@ pub fn process_deposit_receipt(
         (now (partials .entry)) (now (consolidations .entry))) (r .number) (r .scalars)
         ⌝ }
 {
-    let handed = acceptance::handed(
+    let handed = acceptance::accept(
         settings,
         scalars,
         identities,
@@ -42,13 +41,14 @@ pub fn process_deposit_receipt(
         partials,
         consolidations,
     );
-    if handed != answers::DONE {
+    if handed.number != answers::DONE {
         return Outcome {
-            number: handed,
+            number: handed.number,
             scalars,
         };
     }
-    block_processing::receipts::process_deposit_receipt(
+    let sums = acceptance::sum_within(handed.held, amount);
+    receipt_operations::process_receipt_with_sums(
         settings,
         scalars,
         identities,
@@ -61,5 +61,6 @@ pub fn process_deposit_receipt(
         amount,
         index,
         valid,
+        sums,
     )
 }

@@ -5,7 +5,6 @@ use primitives::Scalars;
 use primitives::Settings;
 use primitives::ValidatorIndex;
 use primitives::answers;
-ghost use mathlib.Core.Path.{_≡_};
 ghost use Rattle.rules.specs.Calls.{voluntary-exit};
 ghost use Rattle.primitives.specs.Settings.{settings-of};
 ghost use Rattle.records.specs.Books.{tables, Called};
@@ -47,7 +46,7 @@ pub fn process_voluntary_exit(
             scalars,
         };
     }
-    block_processing::exits::process_voluntary_exit(
+    exit_operations::process_voluntary_exit(
         settings,
         scalars,
         identities,

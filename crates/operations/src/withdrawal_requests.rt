@@ -4,7 +4,6 @@ use primitives::Outcome;
 use primitives::Scalars;
 use primitives::Settings;
 use primitives::answers;
-ghost use mathlib.Core.Path.{_≡_};
 ghost use Rattle.rules.specs.Calls.{withdrawal-request};
 ghost use Rattle.primitives.specs.Settings.{settings-of};
 ghost use Rattle.records.specs.Books.{tables, Called};
@@ -46,7 +45,7 @@ pub fn process_execution_layer_withdrawal_request(
             scalars,
         };
     }
-    block_processing::requests::process_execution_layer_withdrawal_request(
+    request_operations::process_execution_layer_withdrawal_request(
         settings,
         scalars,
         identities,

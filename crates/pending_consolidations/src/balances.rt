@@ -2,18 +2,13 @@
 use primitives::Gwei;
 use primitives::Settings;
 use primitives::ValidatorIndex;
+use primitives::min;
 ghost use mathlib.Core.Path.{_≡_};
 ghost use mathlib.Core.List.{List};
-ghost use Prim.Native.Nat.{ℕ, _<_, min};
+ghost use Prim.Native.Nat.{ℕ, _<_};
 ghost use Rattle.rules.specs.Helpers.{get-active-balance, get-validator-max-effective-balance};
 ghost use Rattle.primitives.specs.Settings.{settings-of};
 ghost use Rattle.records.specs.Layout.{validator-at, identities-fit, validators-fit};
-
-pub fn min(a: Gwei, b: Gwei) -> Gwei
-    ensures { λ r. ⌜ r .0 ≡ min (a .0) (b .0) ⌝ }
-{
-    if a.0 < b.0 { a } else { b }
-}
 
 // get_validator_max_effective_balance: byte 0 of the credentials decides.
 pub fn max_effective_balance_at(settings: Settings, identities: &[u8], i: ValidatorIndex) -> Gwei

@@ -2,6 +2,7 @@
 pub mod answers; // the numbers of the answers
 
 ghost use mathlib.Core.Path.{_≡_};
+ghost use Prim.Native.Nat.{min, max};
 ghost use Rattle.primitives.specs.Profiles.{row-settings, mainnet};
 ghost use Rattle.primitives.specs.Scalars.{with-epoch, with-next-withdrawal, with-receipts-start};
 ghost use Rattle.primitives.specs.Scalars.{with-deposit-balance-to-consume};
@@ -22,6 +23,18 @@ pub struct Epoch(pub u64);
 pub struct ValidatorIndex(pub usize);
 
 pub struct WithdrawalIndex(pub u64);
+
+pub fn min(a: Gwei, b: Gwei) -> Gwei
+    ensures { λ r. ⌜ r .0 ≡ min (a .0) (b .0) ⌝ }
+{
+    if a.0 < b.0 { a } else { b }
+}
+
+pub fn max(a: Gwei, b: Gwei) -> Gwei
+    ensures { λ r. ⌜ r .0 ≡ max (a .0) (b .0) ⌝ }
+{
+    if a.0 < b.0 { b } else { a }
+}
 
 // The fifteen chain values, then the limits of the registry and of the three queues.
 pub struct Settings {

@@ -9,27 +9,31 @@ use lib.Dec.{eqb, ltb}
 use lib.ListN.{length, getD, take, drop, drop-of-length-le}
 use lib.Seq.{drop-cons, getD-take, getD-drop, length-take-le, take-at, drop-at}
 use lib.Seq.{paste, length-paste, drop-paste}
-use borrow.Author.Tests.{eq-eqb, ne-eqb, ltb-true, ltb-false}
+use borrow.Author.Tests.{ltb-true, ltb-false}
 use Rattle.lists.specs.Base.{same-bytes}
+use Rattle.lists.specs.Laws.{and-true}
 use Rattle.tables.specs.Words.{Outside}
 
--- ---- a loop that compares, with the invariant `same-bytes (drop j a) (drop j b) ≡ same-bytes a b`
+-- ---- a loop that compares every byte: `same` so far, and what is left
 
 same-bytes-step : (a b : List ℕ) (j : ℕ) → j < length a → j < length b
     → same-bytes (drop j a) (drop j b)
     ≡ (eqb (getD a j 0) (getD b j 0) && same-bytes (drop (j + 1) a) (drop (j + 1) b))
 same-bytes-step a b j h k = rw (add-one, drop-cons a j 0 h, drop-cons b j 0 k)
 
-module _ (a b : List ℕ) (j : ℕ) (inv : same-bytes (drop j a) (drop j b) ≡ same-bytes a b) where
-  pub same-bytes-more : j < length a → j < length b → getD a j 0 ≡ getD b j 0
-      → same-bytes (drop (j + 1) a) (drop (j + 1) b) ≡ same-bytes a b
-  same-bytes-more h k e = (rw (eq-eqb _ _ e) at (sym (same-bytes-step a b j h k))) ∙ inv
+pub same-bytes-more : (a b : List ℕ) (j : ℕ) (same : Bool)
+    → (same && same-bytes (drop j a) (drop j b)) ≡ same-bytes a b → j < length a → j < length b
+    → ((same && eqb (getD a j 0) (getD b j 0)) && same-bytes (drop (j + 1) a) (drop (j + 1) b)) ≡ same-bytes a b
+same-bytes-more a b j true inv h k = sym (same-bytes-step a b j h k) ∙ inv
+same-bytes-more a b j false inv h k = inv
 
-  pub same-bytes-stop : j < length a → j < length b → (getD a j 0 ≡ getD b j 0 → ⊥) → false ≡ same-bytes a b
-  same-bytes-stop h k e = (rw (ne-eqb _ _ e) at (sym (same-bytes-step a b j h k))) ∙ inv
-
-  pub same-bytes-done : length a ≤ j → length b ≤ j → true ≡ same-bytes a b
-  same-bytes-done h k = sym (ap₂ same-bytes (drop-of-length-le a {i = j} h) (drop-of-length-le b {i = j} k)) ∙ inv
+pub same-bytes-done : (a b : List ℕ) (j : ℕ) (same : Bool)
+    → (same && same-bytes (drop j a) (drop j b)) ≡ same-bytes a b → length a ≤ j → length b ≤ j
+    → same ≡ same-bytes a b
+same-bytes-done a b j same inv h k =
+    sym (and-true same)
+    ∙ sym (ap (λ t. same && t) (ap₂ same-bytes (drop-of-length-le a {i = j} h) (drop-of-length-le b {i = j} k)))
+    ∙ inv
 
 -- a byte of a part
 pub getD-part : (l : List ℕ) (at n j : ℕ) → j < n → getD (take n (drop at l)) j 0 ≡ getD l (at + j) 0

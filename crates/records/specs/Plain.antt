@@ -1,4 +1,4 @@
--- The declared structs as the rules' records, and back.
+-- The declared structs as the rules' records.
 use Rattle.rules.specs.Types as rule
 use Rattle.records.specs.declared.validator.Validator.{Validator}
 use Rattle.records.specs.declared.queues.PendingBalanceDeposit.{PendingBalanceDeposit}
@@ -18,24 +18,8 @@ plain-validator v = record {
   balance = v .balance .0;
 }
 
-abbrev pub coded-validator : rule.Validator → Validator
-coded-validator v = record {
-  «public_key» = v .public-key;
-  «withdrawal_credentials» = v .withdrawal-credentials;
-  slashed = v .slashed;
-  «effective_balance» = record { 0 = v .effective-balance };
-  «activation_eligibility_epoch» = record { 0 = v .activation-eligibility-epoch };
-  «activation_epoch» = record { 0 = v .activation-epoch };
-  «exit_epoch» = record { 0 = v .exit-epoch };
-  «withdrawable_epoch» = record { 0 = v .withdrawable-epoch };
-  balance = record { 0 = v .balance };
-}
-
 abbrev pub plain-deposit : PendingBalanceDeposit → rule.PendingBalanceDeposit
 plain-deposit d = record { index = d .index .0; amount = d .amount .0 }
-
-abbrev pub coded-deposit : rule.PendingBalanceDeposit → PendingBalanceDeposit
-coded-deposit d = record { index = record { 0 = d .index }; amount = record { 0 = d .amount } }
 
 abbrev pub plain-partial : PendingPartialWithdrawal → rule.PendingPartialWithdrawal
 plain-partial p = record {
@@ -44,18 +28,5 @@ plain-partial p = record {
   withdrawable-epoch = p .«withdrawable_epoch» .0;
 }
 
-abbrev pub coded-partial : rule.PendingPartialWithdrawal → PendingPartialWithdrawal
-coded-partial p = record {
-  index = record { 0 = p .index };
-  amount = record { 0 = p .amount };
-  «withdrawable_epoch» = record { 0 = p .withdrawable-epoch };
-}
-
 abbrev pub plain-consolidation : PendingConsolidation → rule.PendingConsolidation
 plain-consolidation c = record { source-index = c .«source_index» .0; target-index = c .«target_index» .0 }
-
-abbrev pub coded-consolidation : rule.PendingConsolidation → PendingConsolidation
-coded-consolidation c = record {
-  «source_index» = record { 0 = c .source-index };
-  «target_index» = record { 0 = c .target-index };
-}

@@ -56,12 +56,11 @@ pub fn put32(bytes: &mut [u8], at: usize, from: [u8; 32])
 pub fn same_address(a: [u8; 20], b: [u8; 20]) -> bool
     ensures { λ r. ⌜ r ≡ same-bytes a b ⌝ }
 {
+    let mut same = true;
     let mut j = 0;
     while j < 20 {
-        if a[j] != b[j] {
-            return false;
-        }
+        same = same & (a[j] == b[j]);
         j += 1;
     }
-    true
+    same
 }

@@ -135,19 +135,19 @@ pub fn active_effective_balance_at(validators: &[u64], i: ValidatorIndex, epoch:
     Gwei(validators[at + 1])
 }
 
+// All bytes are compared, without a branch: sixteen at once where the machine can.
 pub fn has_public_key(identities: &[u8], i: ValidatorIndex, public_key: [u8; 48]) -> bool
     requires { ⌜ i .0 < identities-fit (now identities) ⌝ }
     ensures { λ r. ⌜ r ≡ same-bytes «public_key» (public-key-at (now (identities .entry)) (i .0)) ⌝ }
 {
     let at = 80 * i.0;
+    let mut same = true;
     let mut j = 0;
     while j < 48 {
-        if public_key[j] != identities[at + j] {
-            return false;
-        }
+        same = same & (public_key[j] == identities[at + j]);
         j += 1;
     }
-    true
+    same
 }
 
 // ---- stores

@@ -1,5 +1,5 @@
 -- The answer by where it comes from: what was handed in, the call's own tests, or the result's size.
-use mathlib.Core.Path.{_≡_, sym, _∙_}
+use mathlib.Core.Path.{_≡_}
 use Prim.Native.Nat.{ℕ}
 use borrow.Author.Tests.{eq-eqb, ne-eqb}
 use Rattle.lists.specs.Base.{if_then_else_}

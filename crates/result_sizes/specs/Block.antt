@@ -1,26 +1,25 @@
 -- The size of the results of exits, requests, consolidation calls, withdrawals and receipts, from accepted books.
-use mathlib.Core.Path.{_≡_, refl, sym, ap, _∙_}
-use mathlib.Core.Bool.{Bool, true, false, _&&_}
+use mathlib.Core.Path.{_≡_, refl, ap, _∙_}
+use mathlib.Core.Bool.{true}
 use mathlib.Core.List.{List, [], _∷_, _++_}
-use Prim.Native.Nat.{ℕ, _+_, _-_, _≤_, _<_, _^_, max, min}
+use Prim.Native.Nat.{ℕ, _+_, _-_, _≤_, _<_}
 use native.Mathlib.Omega.{arith}
-use lib.ListN.{length, getD, length-append, length-drop}
-use lib.Dec.{leb, ltb, eqb}
+use lib.ListN.{length}
+use lib.Dec.{leb}
 use borrow.Author.Tests.{leb-true, le-leb, eq-eqb}
-use Rattle.lists.specs.Base.{if_then_else_, adjust, total, every}
+use Rattle.lists.specs.Base.{adjust, every}
 use Rattle.lists.specs.Laws.{if-true, length-adjust, every-at, every-drop, every-append-one, total-append, total-drop}
-use Rattle.rules.specs.Types.{FAR, BOUND, Settings, Validator, PendingPartialWithdrawal, Withdrawal, Books}
+use Rattle.rules.specs.Types.{FAR, BOUND, Settings, PendingPartialWithdrawal, Withdrawal, Books}
 use Rattle.rules.specs.Update.{with-exit, with-exit-churn, with-validators, with-pending-partial-withdrawals}
-use Rattle.rules.specs.Helpers.{at, no-validator, count, Assignment, get-activation-exit-churn-limit}
+use Rattle.rules.specs.Helpers.{at, no-validator, count, get-activation-exit-churn-limit}
 use Rattle.rules.specs.Helpers.{compute-activation-exit-epoch, compute-exit-epoch-and-update-churn}
 use Rattle.rules.specs.Helpers.{get-consolidation-churn-limit, compute-consolidation-epoch-and-update-churn}
 use Rattle.rules.specs.Helpers.{initiate-validator-exit}
 use Rattle.rules.specs.BlockProcessing.{expected-partial-withdrawals, next-index, process-withdrawals}
 use Rattle.rules.specs.BlockProcessing.{process-consolidation}
 use Rattle.rules.specs.Acceptance.{held, partial-amounts, effective-within, epochs-within, partial-epoch-within}
-use Rattle.rules.specs.Acceptance.{within-limits, sums-within, all-epochs-within}
 use Rattle.rules.specs.Calls.{size-refusal}
-use Rattle.rule_laws.specs.Accepted.{SoundSettings, SoundBooks, fits-so, sums-so, epochs-so}
+use Rattle.rule_laws.specs.Accepted.{SoundSettings, SoundBooks}
 use Rattle.rule_laws.specs.Churn.{assigned-epoch}
 use Rattle.rule_laws.specs.Withdrawals.{pay-length, pay-every}
 use Rattle.conservation.specs.Proofs.Flow.{Flow}

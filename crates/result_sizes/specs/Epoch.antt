@@ -1,24 +1,22 @@
 -- The size of the results of rewards, penalties, the three steps and the turn, from accepted books.
-use mathlib.Core.Path.{_≡_, refl, sym, ap, _∙_}
-use mathlib.Core.Bool.{Bool, true, false}
-use mathlib.Core.List.{List, _++_}
+use mathlib.Core.Path.{_≡_, refl, ap, _∙_}
+use mathlib.Core.Bool.{true}
 use Prim.Native.Nat.{ℕ, _+_, _-_, _≤_, _<_}
 use native.Mathlib.Omega.{arith}
 use lib.ListN.{length, length-drop}
 use lib.Dec.{leb}
 use borrow.Author.Tests.{le-leb}
-use Rattle.lists.specs.Base.{if_then_else_, total}
+use Rattle.lists.specs.Base.{total}
 use Rattle.rules.specs.Types.{BOUND, Settings, Books}
 use Rattle.rules.specs.Helpers.{count, increased, decreased, increase-balance, decrease-balance}
 use Rattle.rules.specs.EpochProcessing.{process-pending-balance-deposits, process-pending-consolidations}
 use Rattle.rules.specs.EpochProcessing.{process-effective-balance-updates, turn}
 use Rattle.rules.specs.Acceptance.{held, partial-amounts, within-limits, sums-within, all-epochs-within}
 use Rattle.rules.specs.Calls as calls
-use Rattle.rules.specs.Calls.{Operation, own-refusal, result, size-refusal}
-use Rattle.rules.specs.Counting.{Counted, counts, deposit-step-counts, consolidation-step-counts}
-use Rattle.rule_laws.specs.Accepted.{SoundBooks, Fits, Sums, Epochs, fits-so, sums-so, epochs-so}
-use Rattle.rule_laws.specs.Deposits.{credited-now, deposit-step-form}
-use Rattle.conservation.specs.Proofs.Flow.{Flow}
+use Rattle.rules.specs.Calls.{size-refusal}
+use Rattle.rules.specs.Counting.{deposit-step-counts, consolidation-step-counts}
+use Rattle.rule_laws.specs.Accepted.{SoundBooks, Epochs, epochs-so}
+use Rattle.rule_laws.specs.Deposits.{deposit-step-form}
 use Rattle.conservation.specs.Proofs.Steps.{deposit-flow, consolidation-flow, effective-flow, turn-flow}
 use Rattle.conservation.specs.Proofs.Operations.{reward-flow, penalty-flow}
 use Rattle.result_sizes.specs.Size.{size-number, size-by, limits-queue, sums-held, epochs-epoch}

@@ -1,18 +1,18 @@
 -- The size of the results of exits and of consolidation calls, from accepted books: only a new epoch can be too large.
-use mathlib.Core.Path.{_≡_, refl, sym, ap, _∙_}
+use mathlib.Core.Path.{_≡_, refl, ap, _∙_}
 use mathlib.Core.Bool.{Bool, true, false, _&&_, _||_}
-use mathlib.Core.List.{List, _∷_}
-use Prim.Native.Nat.{ℕ, _+_, _≤_, _<_, _^_, max}
+use mathlib.Core.List.{List}
+use Prim.Native.Nat.{ℕ, _≤_, _<_}
 use native.Mathlib.Omega.{arith}
 use lib.ListN.{length}
 use lib.Dec.{leb, eqb}
-use borrow.Author.Tests.{leb-true, leb-false, le-leb, lt-leb, ne-eqb}
-use Rattle.lists.specs.Base.{if_then_else_, all, adjust, every}
+use borrow.Author.Tests.{leb-true, le-leb, ne-eqb}
+use Rattle.lists.specs.Base.{all, adjust, every}
 use Rattle.lists.specs.Laws.{both, join, and-true, and-false, every-adjust, every-fails, length-adjust}
 use Rattle.lists.specs.Laws.{getD-adjust}
-use Rattle.rules.specs.Types.{FAR, BOUND, Settings, Validator, Books}
+use Rattle.rules.specs.Types.{FAR, BOUND, Validator, Books}
 use Rattle.rules.specs.Update.{with-exit}
-use Rattle.rules.specs.Helpers.{at, no-validator, count}
+use Rattle.rules.specs.Helpers.{at, no-validator}
 use Rattle.rules.specs.Acceptance.{epoch-within, epochs-within, partial-epoch-within, all-epochs-within}
 
 -- ---- an epoch that is not FAR

@@ -1,26 +1,23 @@
 -- The size of a receipt's result, from accepted books: the registry, the deposit queue and the sum can be too large.
 use mathlib.Core.Path.{_≡_, refl, ap, ap₂, _∙_}
-use mathlib.Core.Bool.{Bool, true, false, not, _&&_}
-use mathlib.Core.List.{List, [], _∷_, _++_}
-use Prim.Native.Nat.{ℕ, _+_, _≤_, _<_}
+use mathlib.Core.Bool.{Bool, true, _&&_}
+use mathlib.Core.List.{List, [], _∷_}
+use Prim.Native.Nat.{ℕ, _+_, _<_}
 use native.Mathlib.Omega.{arith}
 use lib.ListN.{length, length-append}
-use lib.Dec.{leb, ltb}
-use borrow.Author.Tests.{ltb-true, le-leb}
+use lib.Dec.{leb}
+use borrow.Author.Tests.{le-leb}
 use Rattle.lists.specs.Base.{if_then_else_, all}
-use Rattle.lists.specs.Laws.{by-test, if-true, if-false, and-true, join, every-append}
-use Rattle.rules.specs.Types.{BOUND, Settings, Validator, PendingBalanceDeposit, Books}
-use Rattle.rules.specs.Helpers.{at, count, position, queue-deposit}
-use Rattle.rules.specs.Helpers.{has-eth1-withdrawal-credential, switch-to-compounding-validator}
-use Rattle.rules.specs.BlockProcessing.{switches, apply-deposit, add-validator-to-registry, get-validator-from-deposit}
-use Rattle.rules.specs.BlockProcessing.{start-receipts, process-deposit-receipt}
+use Rattle.lists.specs.Laws.{by-test, and-true, every-append}
+use Rattle.rules.specs.Types.{BOUND, Settings, PendingBalanceDeposit, Books}
+use Rattle.rules.specs.Helpers.{count, queue-deposit}
+use Rattle.rules.specs.Helpers.{switch-to-compounding-validator}
+use Rattle.rules.specs.BlockProcessing.{add-validator-to-registry, get-validator-from-deposit}
 use Rattle.rules.specs.Acceptance.{held, epochs-within, within-limits, sums-within, all-epochs-within}
 use Rattle.rules.specs.Calls.{size-refusal}
 use Rattle.rules.specs.Counting.{excess-entry}
-use Rattle.rule_laws.specs.Accepted.{SoundBooks, Epochs, epochs-so}
-use Rattle.rule_laws.specs.Switch.{switch-form}
-use Rattle.conservation.specs.Proofs.Flow.{Flow}
-use Rattle.conservation.specs.Proofs.Operations.{queue-flow, added-flow, known-flow}
+use Rattle.rule_laws.specs.Accepted.{SoundBooks, epochs-so}
+use Rattle.conservation.specs.Proofs.Operations.{added-flow, known-flow}
 use Rattle.result_sizes.specs.Size.{size-number, size-by, limits-queue, sums-held}
 use Rattle.result_sizes.specs.Steady.{Steady, beside, then-steady, switch-steady}
 use Rattle.result_sizes.specs.Epoch.{steady-size, epochs-before}

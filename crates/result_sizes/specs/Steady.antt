@@ -1,11 +1,10 @@
 -- Changes that keep the epoch, the count, the waiting partials and every epoch within its bound.
 use mathlib.Core.Path.{_≡_, refl, ap, _∙_}
-use mathlib.Core.Bool.{Bool, true}
-use mathlib.Core.List.{List, [], _∷_, map}
+use mathlib.Core.Bool.{true}
+use mathlib.Core.List.{List, [], _∷_}
 use Prim.Native.Nat.{ℕ}
 use lib.ListN.{length, length-map}
-use lib.Dec.{ltb, eqb}
-use Rattle.lists.specs.Base.{if_then_else_, adjust, every}
+use Rattle.lists.specs.Base.{adjust, every}
 use Rattle.lists.specs.Laws.{by-test, length-adjust, every-adjust, every-map}
 use Rattle.rules.specs.Types.{Settings, Validator, PendingConsolidation, Books}
 use Rattle.rules.specs.Update.{with-validators, with-pending-consolidations}

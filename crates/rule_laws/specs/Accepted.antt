@@ -1,9 +1,9 @@
 -- Accepted settings and books as facts.
 use mathlib.Core.Path.{_≡_}
-use mathlib.Core.Bool.{true, _&&_}
+use mathlib.Core.Bool.{true}
 use Prim.Native.Nat.{ℕ, _^_, _≤_, _<_}
 use lib.ListN.{length}
-use lib.Dec.{leb, ltb}
+use lib.Dec.{leb}
 use borrow.Author.Tests.{ltb-true, leb-true, le-leb, lt-ltb}
 use Rattle.lists.specs.Base.{every}
 use Rattle.lists.specs.Laws.{both, join, nth, all-none, all-more}

@@ -2,7 +2,7 @@
 use mathlib.Core.Path.{_≡_, refl}
 use mathlib.Core.Bool.{true}
 use mathlib.Core.List.{List, [], _∷_}
-use Prim.Native.Nat.{ℕ, zero, suc, _+_, _-_, _*_, _/_, _%_, _^_, _≤_, _<_, min, max}
+use Prim.Native.Nat.{ℕ, zero, suc, _+_, _-_, _*_, _/_, _%_, _^_, _≤_, _<_, max}
 use native.Mathlib.Nat.{div-mul-le-self, div-le-self, mod-lt, div-add-mod'}
 use native.Mathlib.Omega.{arith}
 use lib.ListN.{length}
@@ -10,11 +10,11 @@ use lib.Dec.{leb, ltb}
 use borrow.Author.Tests.{ltb-true, leb-true}
 use Rattle.lists.specs.Base.{if_then_else_, total, every}
 use Rattle.lists.specs.Laws.{by-test, both}
-use Rattle.rules.specs.Types.{BOUND, Settings, Validator, Books}
+use Rattle.rules.specs.Types.{Settings, Validator, Books}
 use Rattle.rules.specs.Helpers.{count, active-effective-balance, get-total-active-balance, get-balance-churn-limit}
 use Rattle.rules.specs.Helpers.{get-activation-exit-churn-limit, get-consolidation-churn-limit, assign-epoch}
 use Rattle.rules.specs.Acceptance.{effective-within}
-use Rattle.rule_laws.specs.Accepted.{SoundSettings, Limit}
+use Rattle.rule_laws.specs.Accepted.{SoundSettings}
 
 -- what is left after rounding down to a multiple of n is at least n
 round-down : (x n : ℕ) → 0 < n → n ≤ x → n ≤ x - x % n

@@ -1,14 +1,14 @@
 -- The expected list: at most a payload long, of validators that are there.
 use mathlib.Core.Path.{_≡_, refl, _∙_}
 use mathlib.Core.Bool.{Bool, true}
-use mathlib.Core.List.{List, [], _∷_, _++_}
+use mathlib.Core.List.{List, [], _∷_}
 use Prim.Native.Nat.{ℕ, zero, suc, _+_, _-_, _%_, _≤_, _<_, min}
 use native.Mathlib.Nat.{mod-lt}
 use native.Mathlib.Omega.{arith}
 use lib.ListN.{length, length-append}
 use lib.Dec.{ltb}
 use borrow.Author.Tests.{lt-ltb}
-use Rattle.lists.specs.Base.{if_then_else_, adjust, every}
+use Rattle.lists.specs.Base.{adjust, every}
 use Rattle.lists.specs.Laws.{by-test, both, join, every-append, every-adjust, length-adjust}
 use Rattle.rules.specs.Types.{Settings, Validator, PendingPartialWithdrawal, Withdrawal, Books}
 use Rattle.rules.specs.Helpers.{count, decreased}

@@ -5,14 +5,13 @@ use mathlib.Core.List.{List, [], _∷_}
 use Prim.Native.Nat.{ℕ, _+_, _-_, _*_, _^_}
 use lib.Dec.{eqb}
 use Rattle.lists.specs.Base.{all}
-use Rattle.rules.specs.Types.{FAR, Settings, Validator, Withdrawal, Books}
+use Rattle.rules.specs.Types.{FAR, Settings, Validator, Books}
 use Rattle.rules.specs.Update.{with-withdrawal-credentials, with-balance, with-exit}
 use Rattle.rules.specs.Update.{with-epoch, with-next-withdrawal, with-exit-churn}
-use Rattle.rules.specs.BlockProcessing.{get-expected-withdrawals}
 use Rattle.rules.specs.Calls.{Operation, Call, answer, assignment-answer}
 use Rattle.rules.specs.Calls.{reward, penalty, deposit-receipt, voluntary-exit, withdrawal-request}
 use Rattle.rules.specs.Calls.{consolidation, withdrawals, turn, pending-consolidations}
-use Rattle.rules.specs.Examples.{G, near-mainnet, mainnet, key, address, credentials, validator, slashed, since}
+use Rattle.rules.specs.Examples.{G, near-mainnet, mainnet, key, address, credentials, validator, since}
 use Rattle.rules.specs.Examples.{deposit, partial, pending, withdrawal, books, call, opened}
 
 -- ---- settings: churn, payload, limits

@@ -3,14 +3,14 @@
 use mathlib.Core.Path.{_≡_, refl}
 use mathlib.Core.Bool.{true, false}
 use mathlib.Core.List.{List, [], _∷_, map}
-use Prim.Native.Nat.{ℕ, _+_, _*_}
-use Rattle.rules.specs.Types.{FAR, Settings, Validator, PendingBalanceDeposit, Books}
+use Prim.Native.Nat.{_*_}
+use Rattle.rules.specs.Types.{FAR, Books}
 use Rattle.rules.specs.Update.{with-exit, with-next-withdrawal, with-deposit-balance-to-consume}
 use Rattle.rules.specs.Acceptance.{held}
 use Rattle.rules.specs.Calls.{Call, run, answers}
 use Rattle.rules.specs.Calls.{reward, penalty, deposit-receipt, voluntary-exit, withdrawals}
 use Rattle.rules.specs.Calls.{turn, pending-balance-deposits}
-use Rattle.rules.specs.Counting.{Counted, counted}
+use Rattle.rules.specs.Counting.{counted}
 use Rattle.rules.specs.Examples.{G, mainnet, key, credentials, validator}
 use Rattle.rules.specs.Examples.{deposit, partial, pending, withdrawal, books, call, opened}
 

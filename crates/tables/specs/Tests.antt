@@ -3,8 +3,6 @@ use mathlib.Core.Path.{_≡_, refl, ap, sym, _∙_}
 use mathlib.Core.Bool.{Bool, true, false, _&&_}
 use Prim.Native.Nat.{ℕ, _+_, _≤_, _<_}
 use lib.ListN.{drop}
-use lib.Dec.{leb}
-use borrow.Author.Tests.{le-leb, leb-true}
 use Rattle.lists.specs.Base.{every}
 use Rattle.lists.specs.Laws.{every-at}
 use Rattle.tables.specs.Rows.{rows, length-rows, getD-rows, drop-rows-at, drop-rows-end}
@@ -33,12 +31,3 @@ module _ {A : Type 0} (p : A → Bool) (n : ℕ) (g : ℕ → A) where
 pub not-so : (t : Bool) → (t ≡ true → ⊥) → false ≡ t
 not-so true h = absurd (h refl)
 not-so false h = refl
-
--- two tests against one bound, of numbers that are within it together
-pub leb-same : (a b k : ℕ) → (a ≤ k → b ≤ k) → (b ≤ k → a ≤ k) → leb a k ≡ leb b k
-leb-same a b k f g = go (leb a k) (leb b k) refl refl
-  where
-    go : (t u : Bool) → leb a k ≡ t → leb b k ≡ u → leb a k ≡ leb b k
-    go true u d e = d ∙ sym (le-leb b k (f (leb-true a k d)))
-    go false true d e = le-leb a k (g (leb-true b k e)) ∙ sym e
-    go false false d e = d ∙ sym e

@@ -35,6 +35,7 @@ use Rattle.expected_withdrawals.specs.declared.Withdrawal.{Withdrawal}
 use Rattle.expected_withdrawals.specs.declared.ExpectedWithdrawals.{ExpectedWithdrawals}
 use Rattle.expected_withdrawals.specs.Expected.{plain-withdrawal, coded-withdrawal, padded, sixteen, expected-of}
 use Rattle.expected_withdrawals.specs.Expected.{handed-list}
+use Rattle.expected_withdrawals.specs.Handed.{length-handed, past}
 use Rattle.withdrawals.specs.Payment.{Paid, index-below}
 
 -- what owning a struct tells of a field that is an array of structs stands at `map` over the list
@@ -46,26 +47,6 @@ unmapped X Y f l n e = sym (go l) ∙ e
     go (x ∷ xs) = ap suc (go xs)
 
 -- ---- handed lists
-
-length-padded : (n : ℕ) (ws : List rule.Withdrawal) → length (padded n ws) ≡ n
-unfolding padded
-length-padded zero ws = refl
-length-padded (suc n) [] = ap suc (length-padded n [])
-length-padded (suc n) (w ∷ ws) = ap suc (length-padded n ws)
-
--- what an array of records reads past its end
-abbrev pub past : Withdrawal
-past = record {
-  index = record { 0 = 0 };
-  «validator_index» = record { 0 = 0 };
-  address = [];
-  amount = record { 0 = 0 };
-}
-
-module _ (list : List Withdrawal) (n : ℕ) where
-  pub length-handed : length (handed-list list n) ≡ n
-  unfolding handed-list
-  length-handed = length-padded n (map plain-withdrawal list)
 
 pub getD-handed : (list : List Withdrawal) (n k : ℕ) → k < n → k < length list
     → getD (handed-list list n) k no-withdrawal ≡ plain-withdrawal (getD list k past)

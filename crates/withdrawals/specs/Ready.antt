@@ -24,7 +24,8 @@ use Rattle.expected_withdrawals.specs.declared.Withdrawal.{Withdrawal}
 use Rattle.expected_withdrawals.specs.declared.ExpectedWithdrawals.{ExpectedWithdrawals}
 use Rattle.expected_withdrawals.specs.Expected.{expected-of, handed-list}
 use Rattle.withdrawals.specs.Payment.{index-below}
-use Rattle.withdrawals.specs.Laws.{length-handed, same-equal, expected-count, expected-partials}
+use Rattle.expected_withdrawals.specs.Handed.{length-handed}
+use Rattle.withdrawals.specs.Laws.{same-equal, expected-count, expected-partials}
 use Rattle.withdrawals.specs.Laws.{expected-partials-short, expected-index}
 
 -- the comparison needs no more than a sound payload

@@ -53,7 +53,7 @@ use Rattle.churn_account.proofs.ChurnAccount as T
 use Rattle.churn_account.proofs.ChurnAccount.Laws as T′
 use Rattle.churn_account.proofs.Units.{IsGwei, IsEpoch, IsAccount, left-is, epoch-is}
 use Rattle.churn_account.proofs.Units.{gwei-made, epoch-made, account-made}
-use Rattle.churn_account.proofs.Units.{gwei-typed, epoch-typed, account-typed}
+use Rattle.churn_account.proofs.Units.{gwei-typed, epoch-typed}
 use Rattle.churn_account.proofs.assign_epoch as core
 use Rattle.churn_account.proofs.assign_epoch.Symbol as core-def
 use Rattle.churn_account.proofs.assign_epoch.Symbol.{name as #assign-epoch}

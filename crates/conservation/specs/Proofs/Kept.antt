@@ -1,22 +1,22 @@
 -- What the tests of a result's size (40, 41, 42) do not look at is kept by every rule.
-use mathlib.Core.Path.{_≡_, refl, sym, ap, _∙_}
+use mathlib.Core.Path.{_≡_, refl, ap, _∙_}
 use mathlib.Core.Bool.{Bool, true, false, not, _&&_}
-use mathlib.Core.List.{List, [], _∷_, _++_, map}
-use Prim.Native.Nat.{ℕ, suc, _+_, _-_, _%_, _≤_, _<_, min}
+use mathlib.Core.List.{List, [], _∷_, _++_}
+use Prim.Native.Nat.{ℕ, suc, _+_, _-_, _≤_, _<_}
 use native.Mathlib.Omega.{arith}
-use lib.ListN.{length, drop, length-append, length-drop, length-map}
+use lib.ListN.{length, length-append, length-drop, length-map}
 use lib.Dec.{leb, ltb, eqb}
-use borrow.Author.Tests.{ltb-true, leb-true, leb-false, eqb-false, le-leb, lt-ltb}
-use Rattle.lists.specs.Base.{if_then_else_, adjust, every, empty}
+use borrow.Author.Tests.{ltb-true, leb-false, eqb-false, le-leb, lt-ltb}
+use Rattle.lists.specs.Base.{adjust, every, empty}
 use Rattle.lists.specs.Laws.{by-test, both, join, not-not, passed, length-adjust, total-append}
 use Rattle.lists.specs.Laws.{every-append, every-adjust, every-drop, every-map, every-weaken}
 use Rattle.rules.specs.Types.{BOUND, Settings, Validator, Withdrawal, Books}
 use Rattle.rules.specs.Types.{PendingBalanceDeposit, PendingPartialWithdrawal, PendingConsolidation}
 use Rattle.rules.specs.Update.{with-exit, with-validators, with-pending-consolidations}
 use Rattle.rules.specs.Helpers.{at, count, position, increased, decreased, queue-deposit}
-use Rattle.rules.specs.Helpers.{has-eth1-withdrawal-credential, get-validator-max-effective-balance}
+use Rattle.rules.specs.Helpers.{get-validator-max-effective-balance}
 use Rattle.rules.specs.Helpers.{get-activation-exit-churn-limit, get-consolidation-churn-limit}
-use Rattle.rules.specs.Helpers.{get-pending-balance-to-withdraw, compute-activation-exit-epoch}
+use Rattle.rules.specs.Helpers.{compute-activation-exit-epoch}
 use Rattle.rules.specs.Helpers.{compute-exit-epoch-and-update-churn, compute-consolidation-epoch-and-update-churn}
 use Rattle.rules.specs.Helpers.{initiate-validator-exit, switch-to-compounding-validator}
 use Rattle.rules.specs.EpochProcessing.{process-pending-balance-deposits, move-active-balance, consolidate}
@@ -34,9 +34,9 @@ use Rattle.rules.specs.Calls.{Operation, own-refusal, result}
 use Rattle.rules.specs.Counting.{excess-entry}
 use Rattle.rule_laws.specs.Accepted.{SoundSettings, SoundBooks}
 use Rattle.rule_laws.specs.Churn.{activation-exit-churn-small, consolidation-churn-small, assigned-left}
-use Rattle.rule_laws.specs.Deposits.{affordable-prefix, affordable-rest, credit, credit-length, credit-every}
-use Rattle.rule_laws.specs.Deposits.{credited-now, waiting-still, carry-over, deposit-step, deposit-step-form}
-use Rattle.rule_laws.specs.Switch.{switched, switched-books, switch-form}
+use Rattle.rule_laws.specs.Deposits.{affordable-prefix, affordable-rest, credit-length, credit-every}
+use Rattle.rule_laws.specs.Deposits.{credited-now, waiting-still, carry-over, deposit-step-form}
+use Rattle.rule_laws.specs.Switch.{switched, switch-form}
 use Rattle.rule_laws.specs.Withdrawals.{pay-length, pay-every, next-validator-in}
 use Rattle.conservation.specs.Proofs.Steps.{deposit-amount}
 

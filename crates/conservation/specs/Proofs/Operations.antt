@@ -1,8 +1,8 @@
 -- The flow of each call that is not refused.
-use mathlib.Core.Path.{_≡_, refl, sym, ap, _∙_}
+use mathlib.Core.Path.{_≡_, refl, sym}
 use mathlib.Core.Bool.{Bool, true, false, not}
-use mathlib.Core.List.{List, [], _∷_, _++_, append-nil}
-use Prim.Native.Nat.{ℕ, zero, suc, _+_, _≤_, _<_, min}
+use mathlib.Core.List.{List, [], _∷_, append-nil}
+use Prim.Native.Nat.{ℕ, zero, suc, _+_, _<_, min}
 use native.Mathlib.Omega.{arith}
 use lib.Dec.{ltb}
 use borrow.Author.Tests.{ltb-true}
@@ -17,11 +17,11 @@ use Rattle.rules.specs.BlockProcessing.{pay-withdrawals, process-withdrawals, g
 use Rattle.rules.specs.BlockProcessing.{add-validator-to-registry, switches, apply-deposit, process-voluntary-exit}
 use Rattle.rules.specs.BlockProcessing.{request-partial-withdrawal, process-execution-layer-withdrawal-request}
 use Rattle.rules.specs.BlockProcessing.{start-receipts, process-deposit-receipt, process-consolidation}
-use Rattle.rules.specs.Acceptance.{deposit-in, sound-books}
+use Rattle.rules.specs.Acceptance.{sound-books}
 use Rattle.rules.specs.Calls as calls
 use Rattle.rules.specs.Calls.{Operation, own-refusal, result}
 use Rattle.rules.specs.Counting.{nothing, takes-in, takes-out, paid-out, excess-entry, receipt-counts, counts}
-use Rattle.rule_laws.specs.Accepted.{SoundBooks, books-sound}
+use Rattle.rule_laws.specs.Accepted.{books-sound}
 use Rattle.conservation.specs.Proofs.Flow.{Flow, quiet, still, then-flow, choose}
 use Rattle.conservation.specs.Proofs.Steps.{balance, deposit-amount, switch-flow}
 use Rattle.conservation.specs.Proofs.Steps.{deposit-flow, consolidation-flow, effective-flow, turn-flow}

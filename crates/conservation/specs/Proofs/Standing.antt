@@ -1,13 +1,10 @@
 -- Accepted books after a call, and the answer 2.
-use mathlib.Core.Path.{_≡_, refl, sym}
-use mathlib.Core.Bool.{Bool, true, false, not}
-use Prim.Native.Nat.{ℕ, _+_, _≤_, _<_}
+use mathlib.Core.Path.{_≡_}
+use mathlib.Core.Bool.{true, false, not}
+use Prim.Native.Nat.{ℕ}
 use native.Mathlib.Omega.{arith}
-use lib.Dec.{eqb}
-use Rattle.lists.specs.Base.{if_then_else_}
 use Rattle.lists.specs.Laws.{by-test}
 use Rattle.rules.specs.Types.{Settings, Books}
-use Rattle.rules.specs.Helpers.{count}
 use Rattle.rules.specs.BlockProcessing.{withdrawals-refusal, voluntary-exit-refusal, consolidation-refusal}
 use Rattle.rules.specs.Acceptance.{sound-books}
 use Rattle.rules.specs.Calls as calls
@@ -15,8 +12,8 @@ use Rattle.rules.specs.Calls.{Operation, Room, Call, handed-refusal, own-refusa
 use Rattle.rules.specs.Calls.{answer, done, after}
 use Rattle.rule_laws.specs.Accepted.{SoundBooks, settings-sound, books-sound, books-sound-so}
 use Rattle.rule_laws.specs.Accepted.{Fits, Sums, Epochs, fits, sums, epochs}
-use Rattle.conservation.specs.Proofs.Answered.{Passed, done-passed}
-use Rattle.conservation.specs.Proofs.Kept.{Kept, Stands, Registry, Queues, Accounts, operation-kept}
+use Rattle.conservation.specs.Proofs.Answered.{done-passed}
+use Rattle.conservation.specs.Proofs.Kept.{Stands, operation-kept}
 
 -- what is kept and what the size tests found make accepted books
 standing-sound : (S : Settings) (b : Books) → Stands S b → Fits S b → Sums b → Epochs b → SoundBooks S b

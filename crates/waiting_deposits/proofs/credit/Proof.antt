@@ -1,4 +1,3 @@
-use borrow.Author.Needs.{needs}
 use borrow.Author.Tests.{lt-ltb, le-ltb}
 use Rattle.lists.specs.Base.{if_then_else_}
 use Rattle.waiting_deposits.specs.Affords.{credited}

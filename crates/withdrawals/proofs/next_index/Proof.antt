@@ -7,7 +7,8 @@ use Rattle.rules.specs.BlockProcessing.{next-index}
 use Rattle.records.specs.Books.{books-of}
 use Rattle.expected_withdrawals.specs.Expected.{handed-list}
 use Rattle.withdrawals.specs.Payment.{index-below}
-use Rattle.withdrawals.specs.Laws.{past, handed-passes, index-kept, index-behind}
+use Rattle.expected_withdrawals.specs.Handed.{past}
+use Rattle.withdrawals.specs.Laws.{handed-passes, index-kept, index-behind}
 use borrow.Author.Needs.{needs}
 use Rattle.withdrawals.proofs.next_index.Statement.{statement}
 use Rattle.withdrawals.proofs.next_index.Tie as tie

@@ -4,7 +4,8 @@ use native.Mathlib.Omega.{arith}
 use lib.ListN.{length, getD}
 use borrow.Author.Tests.{ltb-true}
 use Rattle.rule_laws.specs.Withdrawals.{withdrawal-in}
-use Rattle.withdrawals.specs.Laws.{past, handed-passes, cursor-behind, cursor-on}
+use Rattle.expected_withdrawals.specs.Handed.{past}
+use Rattle.withdrawals.specs.Laws.{handed-passes, cursor-behind, cursor-on}
 use borrow.Author.Needs.{needs}
 use Rattle.withdrawals.proofs.next_validator_index.Statement.{statement}
 use Rattle.withdrawals.proofs.next_validator_index.Tie as tie

@@ -6,7 +6,8 @@ use borrow.Author.Needs.{needs}
 use borrow.Author.Tests.{ltb-true}
 use Rattle.rule_laws.specs.Withdrawals.{withdrawal-in}
 use Rattle.expected_withdrawals.specs.Expected.{plain-withdrawal, handed-list}
-use Rattle.withdrawals.specs.Laws.{past, handed-at, handed-end, handed-passes}
+use Rattle.expected_withdrawals.specs.Handed.{past}
+use Rattle.withdrawals.specs.Laws.{handed-at, handed-end, handed-passes}
 use Rattle.withdrawals.specs.Laws.{Paying, paying-none, paying-more, paid-all}
 use Rattle.withdrawals.proofs.pay_withdrawals.Statement.{statement}
 use Rattle.withdrawals.proofs.pay_withdrawals.Tie as tie

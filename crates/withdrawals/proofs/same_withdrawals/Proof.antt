@@ -6,7 +6,8 @@ use borrow.Author.Needs.{needs}
 use borrow.Author.Tests.{not-true, not-false}
 use Rattle.rules.specs.BlockProcessing.{same-withdrawals}
 use Rattle.expected_withdrawals.specs.Expected.{handed-list}
-use Rattle.withdrawals.specs.Laws.{unmapped, length-handed, differ, same-more, same-stop, same-end}
+use Rattle.expected_withdrawals.specs.Handed.{length-handed}
+use Rattle.withdrawals.specs.Laws.{unmapped, differ, same-more, same-stop, same-end}
 use Rattle.withdrawals.proofs.same_withdrawals.Statement.{statement}
 use Rattle.withdrawals.proofs.same_withdrawals.Tie as tie
 

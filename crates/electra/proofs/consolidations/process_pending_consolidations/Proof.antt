@@ -1,9 +1,9 @@
-use mathlib.Core.Path.{_≡_, sym, _∙_}
+use mathlib.Core.Path.{sym, _∙_}
 use borrow.Author.Needs.{needs}
 use borrow.Author.Tests.{leb-true, not-true, not-false}
-use Rattle.electra.specs.Public.{handed-refused}
-use Rattle.electra.specs.Epoch.{room-true, books-true, consolidations-over, consolidations-done}
-use Rattle.electra.specs.Epoch.{registry-there, consolidations-there, queue-there}
+use Rattle.call_answers.specs.Called.{handed-refused}
+use Rattle.epoch_turns.specs.Epoch.{room-true, books-true, consolidations-over, consolidations-done}
+use Rattle.epoch_turns.specs.Epoch.{registry-there, consolidations-there, queue-there}
 use Rattle.electra.proofs.consolidations.process_pending_consolidations.Statement.{statement}
 use Rattle.electra.proofs.consolidations.process_pending_consolidations.Tie as tie
 use Rattle.electra.proofs.consolidations.process_pending_consolidations.Reads as reads

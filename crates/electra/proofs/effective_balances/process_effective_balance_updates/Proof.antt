@@ -1,7 +1,7 @@
-use mathlib.Core.Path.{_≡_, sym, _∙_}
+use mathlib.Core.Path.{sym, _∙_}
 use borrow.Author.Needs.{needs}
-use Rattle.electra.specs.Public.{handed-refused}
-use Rattle.electra.specs.Epoch.{settings-true, updates-known, effective-done}
+use Rattle.call_answers.specs.Called.{handed-refused}
+use Rattle.epoch_turns.specs.Epoch.{settings-true, updates-known, effective-done}
 use Rattle.electra.proofs.effective_balances.process_effective_balance_updates.Statement.{statement}
 use Rattle.electra.proofs.effective_balances.process_effective_balance_updates.Tie as tie
 use Rattle.electra.proofs.effective_balances.process_effective_balance_updates.Reads as reads

@@ -1,11 +1,11 @@
 use borrow.Author.Needs.{needs}
-use Rattle.electra.specs.Public.{handed-refused}
+use Rattle.call_answers.specs.Called.{handed-refused}
 use Rattle.electra.proofs.penalty.penalty.Statement.{statement}
 use Rattle.electra.proofs.penalty.penalty.Tie as tie
 use Rattle.electra.proofs.penalty.penalty.Reads as reads
 use Rattle.electra.proofs.penalty.penalty.Lts as lts
 use Rattle.acceptance.proofs.handed.Reads as handed-reads
-use Rattle.electra.proofs.penalty.penalty_accepted.Reads as penalty-accepted-reads
+use Rattle.rewards.proofs.penalty.penalty_accepted.Reads as penalty-accepted-reads
 
 -- src/penalty.rt:72:9
 handed-requires : tie.Need-handed-requires

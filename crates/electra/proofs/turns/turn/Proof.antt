@@ -1,11 +1,11 @@
 use borrow.Author.Needs.{needs}
-use Rattle.electra.specs.Public.{handed-refused}
+use Rattle.call_answers.specs.Called.{handed-refused}
 use Rattle.electra.proofs.turns.turn.Statement.{statement}
 use Rattle.electra.proofs.turns.turn.Tie as tie
 use Rattle.electra.proofs.turns.turn.Reads as reads
 use Rattle.electra.proofs.turns.turn.Lts as lts
 use Rattle.acceptance.proofs.handed.Reads as handed-reads
-use Rattle.electra.proofs.turns.turn_accepted.Reads as turn-accepted-reads
+use Rattle.epoch_turns.proofs.turn_accepted.Reads as turn-accepted-reads
 
 -- src/turns.rt:92:9
 handed-requires : tie.Need-handed-requires

@@ -1,11 +1,11 @@
 use borrow.Author.Needs.{needs}
-use Rattle.electra.specs.Public.{handed-refused}
+use Rattle.call_answers.specs.Called.{handed-refused}
 use Rattle.operations.proofs.consolidations.process_consolidation.Statement.{statement}
 use Rattle.operations.proofs.consolidations.process_consolidation.Tie as tie
 use Rattle.operations.proofs.consolidations.process_consolidation.Reads as reads
 use Rattle.operations.proofs.consolidations.process_consolidation.Lts as lts
 use Rattle.acceptance.proofs.handed.Reads as handed-reads
-use Rattle.block_processing.proofs.consolidations.process_consolidation.Reads as process-consolidation-reads
+use Rattle.consolidation_operations.proofs.process_consolidation.Reads as process-consolidation-reads
 
 -- src/consolidations.rt:36:9
 handed-requires : tie.Need-handed-requires

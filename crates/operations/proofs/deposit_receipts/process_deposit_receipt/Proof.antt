@@ -1,62 +1,89 @@
+use mathlib.Core.Path.{_≡_, sym, ap, _∙_}
+use Prim.Native.Nat.{ℕ, _+_, _≤_}
+use native.Mathlib.Omega.{arith}
+use lib.Dec.{leb}
 use borrow.Author.Needs.{needs}
-use Rattle.electra.specs.Public.{handed-refused}
+use Rattle.rules.specs.Types.{BOUND}
+use Rattle.rules.specs.Acceptance.{held}
+use Rattle.rules.specs.Calls.{handed-refusal}
+use Rattle.primitives.specs.Settings.{settings-of}
+use Rattle.records.specs.Books.{Tables, tables, books-of, room-of}
+use Rattle.call_answers.specs.Called.{handed-refused}
+use Rattle.rewards.specs.Rewards.{held-small}
 use Rattle.operations.proofs.deposit_receipts.process_deposit_receipt.Statement.{statement}
 use Rattle.operations.proofs.deposit_receipts.process_deposit_receipt.Tie as tie
-use Rattle.operations.proofs.deposit_receipts.process_deposit_receipt.Reads as reads
-use Rattle.operations.proofs.deposit_receipts.process_deposit_receipt.Lts as lts
-use Rattle.acceptance.proofs.handed.Reads as handed-reads
-use Rattle.block_processing.proofs.receipts.process_deposit_receipt.Reads as process-deposit-receipt-reads
 
--- src/deposit_receipts.rt:36:9
-handed-requires : tie.Need-handed-requires
-handed-requires c κs = search needs
+abbrev lent : tie.Start → Tables
+lent c =
+    tables (c .args .identities .now) (c .args .validators .now) (c .args .deposits .now) (c .args .partials .now)
+    (c .args .consolidations .now)
 
--- src/deposit_receipts.rt:46:9
+accept-requires : tie.Need-accept-requires
+accept-requires c κs = search needs
+
 same-length : tie.Need-same-length
 same-length c = search needs
 
--- src/deposit_receipts.rt:46:9
 same-length-2 : tie.Need-same-length-2
 same-length-2 c = search needs
 
--- src/deposit_receipts.rt:46:9
 same-length-3 : tie.Need-same-length-3
 same-length-3 c = search needs
 
--- src/deposit_receipts.rt:46:9
 returns : tie.Need-returns
-returns c = handed-refused _ _ _ _ _ (c .before .handed .ensures) (c .if1 .taken)
+returns c = handed-refused _ _ _ _ _ (c .before .before .accept .ensures .0) (c .if1 .taken)
 
--- src/deposit_receipts.rt:51:5
-process-deposit-receipt-requires : tie.Need-process-deposit-receipt-requires
-process-deposit-receipt-requires c κs = search needs
+-- accepted, and the sum
+module _ (c : tie.Else1) where
+  abbrev start : tie.Start
+  start = c .before .before .before .before .before .before .before .before .before .before .before
 
--- src/deposit_receipts.rt:13:1
+  accepted : handed-refusal (settings-of (start .args .settings)) (books-of (start .args .scalars) (lent start))
+      (room-of (lent start))
+      ≡ 0
+  accepted = sym (c .before .before .accept .ensures .0) ∙ c .if1 .left
+
+  summed : c .before .before .accept .result .held .0 ≡ held (books-of (start .args .scalars) (lent start))
+  summed = c .before .before .accept .ensures .1 (c .if1 .left)
+
+  small : c .before .before .accept .result .held .0 ≤ BOUND
+  small = omega (arith, summed, held-small _ _ _ 0 0 accepted)
+
+sum-within-requires : tie.Need-sum-within-requires
+sum-within-requires c κs = small c
+
+process-receipt-with-sums-requires : tie.Need-process-receipt-with-sums-requires
+process-receipt-with-sums-requires c κs =
+    let w = c .before .before .before in
+    let e = w .before in (
+      accepted e,
+      w .sum-within .ensures
+          ∙ ap (λ (n : ℕ). leb (n + start e .args .amount .0) BOUND) (summed e),
+    )
+
 same-length-4 : tie.Need-same-length-4
 same-length-4 c = search needs
 
--- src/deposit_receipts.rt:13:1
 same-length-5 : tie.Need-same-length-5
 same-length-5 c = search needs
 
--- src/deposit_receipts.rt:13:1
 same-length-6 : tie.Need-same-length-6
 same-length-6 c = search needs
 
--- src/deposit_receipts.rt:13:1
 returns-2 : tie.Need-returns-2
-returns-2 c = c .before .before .before .before .before .before .process-deposit-receipt .ensures
+returns-2 c = c .before .before .before .before .before .before .process-receipt-with-sums .ensures
 
 pub process-deposit-receipt-spec : {M : Type 1} → statement M
 process-deposit-receipt-spec =
     tie.close
     (tie.spec
-    handed-requires
+    accept-requires
     same-length
     same-length-2
     same-length-3
     returns
-    process-deposit-receipt-requires
+    sum-within-requires
+    process-receipt-with-sums-requires
     same-length-4
     same-length-5
     same-length-6

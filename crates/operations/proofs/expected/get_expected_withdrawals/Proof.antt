@@ -1,4 +1,4 @@
-use mathlib.Core.Path.{_≡_, sym, _∙_}
+use mathlib.Core.Path.{sym, _∙_}
 use borrow.Author.Needs.{needs}
 use Rattle.operations.specs.Payments.{listing-ready}
 use Rattle.operations.specs.Expected.{expected-refused, expected-known}

@@ -1,5 +1,5 @@
 use borrow.Author.Needs.{needs}
-use Rattle.electra.specs.Public.{handed-refused}
+use Rattle.call_answers.specs.Called.{handed-refused}
 use Rattle.operations.proofs.payments.process_withdrawals.Statement.{statement}
 use Rattle.operations.proofs.payments.process_withdrawals.Tie as tie
 use Rattle.operations.proofs.payments.process_withdrawals.Reads as reads

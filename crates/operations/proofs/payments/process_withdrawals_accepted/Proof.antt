@@ -8,7 +8,7 @@ use Rattle.rules.specs.BlockProcessing.{withdrawals-refusal, next-index}
 use Rattle.primitives.specs.Settings.{settings-of}
 use Rattle.records.specs.Books.{Tables, tables, books-of}
 use Rattle.expected_withdrawals.specs.Expected.{expected-of, handed-list}
-use Rattle.electra.specs.Epoch.{settings-true, room-true, books-true}
+use Rattle.epoch_turns.specs.Epoch.{settings-true, room-true, books-true}
 use Rattle.operations.specs.Payments.{listing-ready, listed-count, paying-ready}
 use Rattle.operations.specs.Payments.{expected-same, payments-refused, payments-late, payments-done}
 use Rattle.operations.proofs.payments.process_withdrawals_accepted.Statement.{statement}

@@ -1,11 +1,11 @@
 use borrow.Author.Needs.{needs}
-use Rattle.electra.specs.Public.{handed-refused}
+use Rattle.call_answers.specs.Called.{handed-refused}
 use Rattle.operations.proofs.voluntary_exits.process_voluntary_exit.Statement.{statement}
 use Rattle.operations.proofs.voluntary_exits.process_voluntary_exit.Tie as tie
 use Rattle.operations.proofs.voluntary_exits.process_voluntary_exit.Reads as reads
 use Rattle.operations.proofs.voluntary_exits.process_voluntary_exit.Lts as lts
 use Rattle.acceptance.proofs.handed.Reads as handed-reads
-use Rattle.block_processing.proofs.exits.process_voluntary_exit.Reads as process-voluntary-exit-reads
+use Rattle.exit_operations.proofs.process_voluntary_exit.Reads as process-voluntary-exit-reads
 
 -- src/voluntary_exits.rt:35:9
 handed-requires : tie.Need-handed-requires

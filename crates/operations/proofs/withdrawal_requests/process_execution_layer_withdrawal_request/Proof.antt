@@ -1,5 +1,5 @@
 use borrow.Author.Needs.{needs}
-use Rattle.electra.specs.Public.{handed-refused}
+use Rattle.call_answers.specs.Called.{handed-refused}
 use Rattle.operations.proofs.withdrawal_requests.process_execution_layer_withdrawal_request.Statement.{
   statement,
 }
@@ -7,7 +7,7 @@ use Rattle.operations.proofs.withdrawal_requests.process_execution_laye
 use Rattle.operations.proofs.withdrawal_requests.process_execution_layer_withdrawal_request.Reads as reads
 use Rattle.operations.proofs.withdrawal_requests.process_execution_layer_withdrawal_request.Lts as lts
 use Rattle.acceptance.proofs.handed.Reads as handed-reads
-use Rattle.block_processing.proofs.requests.process_execution_layer_withdrawal_request.Reads as
+use Rattle.request_operations.proofs.process_execution_layer_withdrawal_request.Reads as
     process-execution-layer-withdrawal-request-reads
 
 -- src/withdrawal_requests.rt:34:9

@@ -1,22 +1,23 @@
-use mathlib.Core.Path.{_≡_, refl, sym, _∙_}
+use mathlib.Core.Path.{_≡_, refl}
+use mathlib.Core.Bool.{_&&_}
 use Prim.Native.Nat.{_-_, _*_, _≤_}
 use native.Mathlib.Omega.{arith}
 use lib.ListN.{length, take, drop, length-take, length-drop}
 use borrow.Author.Needs.{needs}
 use Rattle.lists.specs.Base.{same-bytes}
 use Rattle.records.specs.Layout.{public-key-at}
-use Rattle.records.specs.Bytes.{same-bytes-more, same-bytes-stop, same-bytes-done, getD-part}
+use Rattle.records.specs.Bytes.{same-bytes-more, same-bytes-done, getD-part}
 use Rattle.records.proofs.registry.has_public_key.Statement.{statement}
 use Rattle.records.proofs.registry.has_public_key.Tie as tie
 
 abbrev Inv-loop : tie.InvT-loop
-Inv-loop identities public-key at j₀ j =
+Inv-loop identities public-key at same₀ j₀ same j =
     let key = take 48 (drop at identities) in
     (length public-key ≡ 48) × (length key ≡ 48) × (j ≤ 48)
-    × (same-bytes (drop j public-key) (drop j key) ≡ same-bytes public-key key)
+    × ((same && same-bytes (drop j public-key) (drop j key)) ≡ same-bytes public-key key)
 
 abbrev μ-loop : tie.MeasureT-loop
-μ-loop identities public-key at j₀ j = 48 - j
+μ-loop identities public-key at same₀ j₀ same j = 48 - j
 
 mul-at : tie.Need-mul-at Inv-loop μ-loop
 mul-at c = omega arith
@@ -27,22 +28,14 @@ loop-holds c =
     let at = 80 * c .before .args .i .0 in
     (search needs, omega (arith, length-take 48 (drop at ids), length-drop at ids), omega arith, refl)
 
-array-read-if1 : tie.Need-array-read-if1 Inv-loop μ-loop
-array-read-if1 c = omega arith
+array-read-same : tie.Need-array-read-same Inv-loop μ-loop
+array-read-same c = omega arith
 
-add-if1 : tie.Need-add-if1 Inv-loop μ-loop
-add-if1 c = omega arith
+add-same : tie.Need-add-same Inv-loop μ-loop
+add-same c = omega arith
 
-shared-slice-read-if1 : tie.Need-shared-slice-read-if1 Inv-loop μ-loop
-shared-slice-read-if1 c = omega arith
-
-returns : tie.Need-returns Inv-loop μ-loop
-returns c =
-    let a = c .before .before .before .before .before .args in
-    let l = c .before .before .before .loop in
-    let key = public-key-at (a .identities .now) (a .i .0) in
-    same-bytes-stop (a .t3) key (l .j) (l .inv .3) (omega arith) (omega arith)
-    (λ e. c .if1 .taken (e ∙ getD-part (a .identities .now) (80 * a .i .0) 48 (l .j) (omega arith)))
+shared-slice-read-same : tie.Need-shared-slice-read-same Inv-loop μ-loop
+shared-slice-read-same c = omega arith
 
 add-j : tie.Need-add-j Inv-loop μ-loop
 add-j c = omega arith
@@ -52,18 +45,22 @@ loop-less c = omega arith
 
 loop-again : tie.Need-loop-again Inv-loop μ-loop
 loop-again c =
-    let a = c .before .before .before .before .before .args in
-    let l = c .before .before .before .loop in
+    let a = c .before .before .before .before .args in
+    let l = c .before .before .loop in
     let key = public-key-at (a .identities .now) (a .i .0) in
-    let same = c .if1 .left ∙ sym (getD-part (a .identities .now) (80 * a .i .0) 48 (l .j) (omega arith)) in
-    (l .inv .0, l .inv .1, omega arith, same-bytes-more (a .t3) key (l .j) (l .inv .3) (omega arith) (omega arith) same)
+    let byte = getD-part (a .identities .now) (80 * a .i .0) 48 (l .j) (omega arith) in (
+      l .inv .0,
+      l .inv .1,
+      omega arith,
+      rw byte at (same-bytes-more (a .t3) key (l .j) (l .same) (l .inv .3) (omega arith) (omega arith)),
+    )
 
-returns-2 : tie.Need-returns-2 Inv-loop μ-loop
-returns-2 c =
+returns : tie.Need-returns Inv-loop μ-loop
+returns c =
     let a = c .before .before .before .args in
     let l = c .before .loop in
     let key = public-key-at (a .identities .now) (a .i .0) in
-    same-bytes-done (a .t3) key (l .j) (l .inv .3) (omega arith) (omega arith)
+    same-bytes-done (a .t3) key (l .j) (l .same) (l .inv .3) (omega arith) (omega arith)
 
 pub has-public-key-spec : {M : Type 1} → statement M
 has-public-key-spec =
@@ -73,11 +70,10 @@ has-public-key-spec =
     μ-loop
     mul-at
     loop-holds
-    array-read-if1
-    add-if1
-    shared-slice-read-if1
-    returns
+    array-read-same
+    add-same
+    shared-slice-read-same
     add-j
     loop-less
     loop-again
-    returns-2)
+    returns)
