@@ -94,11 +94,76 @@ static uint8_t expected(size_t records_len, size_t addresses_len) {
                                                records_len, addresses, addresses_len, &count, &partial_count);
 }
 
+/* The file of the opened books, with one byte past it, and what is lent to read, write and carry out. */
+enum { FILE_BYTES = SOLARBASIL_FILE_BYTES(1, 0, 0, 0) };
+
+static uint8_t file[FILE_BYTES + 1];
+static uint64_t chain[SOLARBASIL_SETTINGS + 1];
+static uint64_t written;
+
+static uint8_t write_books(size_t settings_len, size_t scalars_len, size_t file_len) {
+    memset(file, 0xee, sizeof file);
+    written = 77;
+    return solarbasil_write_books(settings, settings_len, b.scalars, scalars_len, b.identities, sizeof b.identities,
+                                  b.validators, 7 * LIMIT, b.deposits, 2 * LIMIT, b.partials, 3 * LIMIT,
+                                  b.consolidations, 2 * LIMIT, file, file_len, &written);
+}
+
+static uint8_t read_books(size_t settings_len, size_t scalars_len, size_t partials_len, size_t file_len) {
+    memset(chain, 0xee, sizeof chain);
+    return solarbasil_read_books(chain, settings_len, b.scalars, scalars_len, b.identities, sizeof b.identities,
+                                 b.validators, 7 * LIMIT, b.deposits, 2 * LIMIT, b.partials, partials_len,
+                                 b.consolidations, 2 * LIMIT, file, file_len);
+}
+
+/* A calls file of one turn. */
+static const uint32_t calls[] = {0x10000002, 0x20000001, 0x90000007, 0x8000000a};
+
+static uint64_t results[4];
+
+static uint8_t carry_out(size_t scalars_len, size_t file_len, size_t results_len) {
+    memset(results, 0xee, sizeof results);
+    count = 77;
+    return solarbasil_carry_out(settings, SOLARBASIL_SETTINGS, b.scalars, scalars_len, b.identities,
+                                sizeof b.identities, b.validators, 7 * LIMIT, b.deposits, 2 * LIMIT, b.partials,
+                                3 * LIMIT, b.consolidations, 2 * LIMIT, (const uint8_t *)calls, file_len, results,
+                                results_len, &count);
+}
+
 static void expect_that(const char *what, bool holds) {
     if (!holds) {
         printf("%s\n", what);
         failures++;
     }
+}
+
+static void files(void) {
+    expect("a writer's scalars one short", write_books(19, 12, FILE_BYTES), 3);
+    expect("a writer's settings one short", write_books(18, 13, FILE_BYTES), 1);
+    expect("room for all but one byte", write_books(19, 13, FILE_BYTES - 1), 61);
+    expect_that("a refused writer stored something", written == 77 && file[0] == 0xee);
+    expect("write", write_books(19, 13, FILE_BYTES + 1), 0);
+    expect_that("written", written == FILE_BYTES && file[0] == 1 && file[FILE_BYTES] == 0xee);
+    expect("a reader's settings one short", read_books(18, 13, 3 * LIMIT, FILE_BYTES), 3);
+    expect("a reader's scalars one short", read_books(19, 12, 3 * LIMIT, FILE_BYTES), 3);
+    expect("a reader's short table", read_books(19, 13, 3 * LIMIT - 1, FILE_BYTES), 3);
+    expect("a byte past the file", read_books(19, 12, 3 * LIMIT, FILE_BYTES + 1), 60);
+    expect("no file", read_books(19, 13, 3 * LIMIT, 0), 60);
+    expect_that("a refused reader stored settings", chain[0] == chain[SOLARBASIL_SETTINGS]);
+    b.scalars[0] = 0;
+    b.validators[6] = 0;
+    uint8_t answer = read_books(20, 14, 3 * LIMIT, FILE_BYTES);
+    expect_that("the books that were read", memcmp(&b, &opened, sizeof b) == 0);
+    expect("read", answer, 0);
+    expect_that("the settings that were read", memcmp(chain, settings, SOLARBASIL_SETTINGS * sizeof chain[0]) == 0);
+    expect_that("stored past the settings", chain[SOLARBASIL_SETTINGS] == 0xeeeeeeeeeeeeeeee);
+    expect("a calls file's scalars one short", carry_out(12, sizeof calls, 4), 3);
+    expect("a short calls file", carry_out(13, sizeof calls - 4, 4), 60);
+    expect("short results", carry_out(13, sizeof calls, 2), 61);
+    expect_that("a refused calls file stored something", count == 77 && results[0] == results[3]);
+    expect("carry out", carry_out(13, sizeof calls, 4), 0);
+    expect_that("carried out", count == 1 && results[0] == 7 && results[1] == 0 && results[2] == 40 * G);
+    expect_that("stored past the results", results[3] == 0xeeeeeeeeeeeeeeee);
 }
 
 int main(void) {
@@ -132,5 +197,6 @@ int main(void) {
     expect("expected list", expected(49, 321), 0);
     expect_that("expected list", count == 1 && partial_count == 0 && records[2] == 8 * G && records[3] == 0);
     expect_that("stored past the list", records[48] == 0xeeeeeeeeeeeeeeee && addresses[320] == 0xee);
+    files();
     return failures != 0;
 }

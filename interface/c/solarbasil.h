@@ -1,7 +1,7 @@
 /* Solarbasil: proved balance books for Ethereum validators (Electra), as a static library for x86-64 Linux.
  *
  * `rt staticlib solarbasil` writes target/staticlib/libsolarbasil.a. It needs memset and memcpy of the C library. The
- * turn and the consolidation step take some 600 kilobytes of stack.
+ * turn, the consolidation step and a calls file take some 600 kilobytes of stack.
  *
  * Buffers. Each is a pointer and a length, which counts items and not bytes. A function may be lent any numbers and any
  * lengths: what it answers and leaves is proved for all of them. The caller owes what C cannot check: each pointer is
@@ -38,6 +38,7 @@
  *   23 no 01 or 02 credential    24 addresses differ         30 withdrawals not the expected list
  *   40 result's registry or deposit queue over its limit     41 result's sums over 2^62
  *   42 result's epoch or withdrawal index over 2^62          50 epoch assignment with churn 0
+ *   60 no books file, or no calls file                       61 buffer shorter than what is to be written
  * The first that applies is given, in the order 1, 3, 2, the call's own tests, 40, 41, 42. Every call on books can be
  * answered 1, 2 and 3; below stand the others that each call can be answered.
  *
@@ -61,6 +62,13 @@ extern "C" {
 #define SOLARBASIL_WITHDRAWALS 16
 #define SOLARBASIL_RECORDS (3 * SOLARBASIL_WITHDRAWALS)
 #define SOLARBASIL_ADDRESSES (20 * SOLARBASIL_WITHDRAWALS)
+
+/* Bytes of a books file with so many records. */
+#define SOLARBASIL_FILE_BYTES(validators, deposits, partials, consolidations) \
+    (4 * (90 + 46 * (validators) + 6 * (deposits) + 9 * (partials) + 6 * (consolidations)))
+
+/* The most calls that a calls file holds. */
+#define SOLARBASIL_CALLS 9999
 
 /* An epoch that never comes; also the receipt start that is not set. */
 #define SOLARBASIL_FAR UINT64_MAX
@@ -169,6 +177,35 @@ uint8_t solarbasil_get_expected_withdrawals(
     const uint64_t *deposits, size_t deposits_len, const uint64_t *partials, size_t partials_len,
     const uint64_t *consolidations, size_t consolidations_len, uint64_t *records, size_t records_len,
     uint8_t *addresses, size_t addresses_len, uint64_t *count, uint64_t *partial_count);
+
+/* Opens a books file (docs/FORMAT.md) into the settings, the scalars and the tables. `settings` has room for 19
+ * numbers, `scalars` for 13, and each table for as many records as its limit in the file, else the answer is 3. What
+ * stands past what was read stays as it is. 60 comes first here, then 1, 3, 2. */
+uint8_t solarbasil_read_books(
+    uint64_t *settings, size_t settings_len, uint64_t *scalars, size_t scalars_len,
+    uint8_t *identities, size_t identities_len, uint64_t *validators, size_t validators_len,
+    uint64_t *deposits, size_t deposits_len, uint64_t *partials, size_t partials_len,
+    uint64_t *consolidations, size_t consolidations_len, const uint8_t *file, size_t file_len);
+
+/* Writes the books as a file to the start of `out`, and its length in bytes to `written`: SOLARBASIL_FILE_BYTES of the
+ * four counts. What stands past it stays as it is. 61 where `out` is shorter than the file. Alters no books. */
+uint8_t solarbasil_write_books(
+    const uint64_t *settings, size_t settings_len, const uint64_t *scalars, size_t scalars_len,
+    const uint8_t *identities, size_t identities_len, const uint64_t *validators, size_t validators_len,
+    const uint64_t *deposits, size_t deposits_len, const uint64_t *partials, size_t partials_len,
+    const uint64_t *consolidations, size_t consolidations_len, uint8_t *out, size_t out_len, uint64_t *written);
+
+/* Carries out the calls of a calls file one after another. `results` takes three numbers of each: its code (1 reward,
+ * 2 penalty, 3 receipt, 4 exit, 5 request, 6 consolidation, 7 turn, 8 withdrawals), its answer, and balances plus
+ * waiting deposits after it; what stands past them stays as it is. `count` takes how many calls there were, at most
+ * SOLARBASIL_CALLS. A call of the file that is refused has its answer in the results, and the next one goes on. 60 for
+ * the file, then 61 where `results` has room for fewer than three numbers a call. */
+uint8_t solarbasil_carry_out(
+    const uint64_t *settings, size_t settings_len, uint64_t *scalars, size_t scalars_len,
+    uint8_t *identities, size_t identities_len, uint64_t *validators, size_t validators_len,
+    uint64_t *deposits, size_t deposits_len, uint64_t *partials, size_t partials_len,
+    uint64_t *consolidations, size_t consolidations_len, const uint8_t *file, size_t file_len,
+    uint64_t *results, size_t results_len, uint64_t *count);
 
 /* The bare epoch assignment, of any five numbers: the epoch that an amount gets, and what is left of its churn. 50,
  * 42. */

@@ -1,7 +1,7 @@
 -- The facts that the closing books are proved by.
 use mathlib.Core.Path.{_≡_, refl, sym, ap, _∙_}
 use mathlib.Core.Bool.{Bool, true, false}
-use mathlib.Core.List.{List, _++_}
+use mathlib.Core.List.{List}
 use Prim.Native.Nat.{ℕ, _≤_}
 use native.Mathlib.Omega.{arith}
 use lib.ListN.{length, take, drop, length-append}
@@ -17,9 +17,9 @@ use Rattle.file_format.specs.File.{write-books}
 use Rattle.file_format.specs.Answers.{write-answer, over}
 use Rattle.books_writer.specs.Written.{BooksWritten}
 use Rattle.books_output.specs.declared.files.Closing.{Closing}
-use Rattle.books_output.specs.Files.{Files, files}
+use Rattle.books_output.specs.Files.{files}
 use Rattle.books_output.specs.Closing.{closing-of, closing-number, closing, closing-answer, ClosingWritten}
-use Rattle.books_output.specs.Carried.{Done, CarriedFiles}
+use Rattle.books_output.specs.Carried.{CarriedFiles}
 
 -- accepted books are refused for the buffer alone
 write-accepted : (S : rule.Settings) (b : rule.Books) (r : Room) (space : ℕ) → handed-refusal S b r ≡ 0

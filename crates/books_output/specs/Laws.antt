@@ -1,20 +1,18 @@
 -- The facts that the functions are proved by.
 use mathlib.Core.Path.{_≡_, refl, sym, ap, _∙_}
 use mathlib.Core.Bool.{Bool, true, false}
-use mathlib.Core.List.{List, map, _++_}
+use mathlib.Core.List.{List, map}
 use mathlib.Core.Option.{Option, some, none}
 use Prim.Native.Nat.{ℕ, _*_, _/_, _^_, _≤_, _<_, min}
 use native.Mathlib.Omega.{arith}
 use lib.ListN.{length, take, drop, length-append, length-map}
 use lib.Seq.{length-take-le}
-use lib.Dec.{ltb}
 use borrow.Author.Tests.{lt-ltb, le-ltb, ne-eqb}
 use Rattle.lists.specs.Base.{if_then_else_}
 use Rattle.lists.specs.Laws.{if-true, if-false}
 use Rattle.rules.specs.Types as rule
-use Rattle.rules.specs.Calls.{Operation, Call, Room, handed-refusal, run}
+use Rattle.rules.specs.Calls.{Operation, handed-refusal, run}
 use Rattle.conservation.specs.Accepted.{run-accepted}
-use Rattle.primitives.specs.declared.Scalars.{Scalars}
 use Rattle.primitives.specs.Settings.{settings-of}
 use Rattle.records.specs.Books.{Tables, tables, books-of, room-of, call-on}
 use Rattle.records.specs.Fixed.{SameSizes}
@@ -39,7 +37,7 @@ use Rattle.runs.specs.Steps.{many-size}
 use Rattle.books_output.specs.declared.files.Closing.{Closing}
 use Rattle.books_output.specs.Files.{Files, refused, accepted, program-room, program-calls, short-enough}
 use Rattle.books_output.specs.Files.{with-calls, opened, files}
-use Rattle.books_output.specs.Output.{text, output, most-printed}
+use Rattle.books_output.specs.Output.{output, most-printed}
 use Rattle.books_output.specs.Promise.{BooksOutput}
 use Rattle.books_output.specs.Carried.{OpeningRead, Done, CarriedFiles}
 

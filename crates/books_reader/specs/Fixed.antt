@@ -8,9 +8,8 @@ use lib.Dec.{eqb}
 use borrow.Author.Tests.{eqb-true, eqb-false}
 use Rattle.rules.specs.Types as rule
 use Rattle.primitives.specs.declared.Settings.{Settings}
-use Rattle.primitives.specs.declared.Scalars.{Scalars}
 use Rattle.primitives.specs.Settings.{settings-of}
-use Rattle.records.specs.Books.{Tables, books-of}
+use Rattle.records.specs.Books.{Tables}
 use Rattle.records.specs.Fixed.{SameSizes, books-fixed}
 use Rattle.books_reader.specs.declared.Opened.{Opened}
 use Rattle.books_reader.specs.Read.{blank, BooksRead}

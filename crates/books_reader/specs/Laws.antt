@@ -1,13 +1,12 @@
 -- The facts that the reader is proved by.
 use mathlib.Core.Path.{_≡_, refl, sym, ap, _∙_}
-use mathlib.Core.Bool.{Bool, true, false, not, _&&_}
+use mathlib.Core.Bool.{Bool, true, false, _&&_}
 use mathlib.Core.List.{List}
-use mathlib.Core.Option.{Option, some, none}
-use Prim.Native.Nat.{ℕ, _%_, _≤_}
+use mathlib.Core.Option.{some, none}
+use Prim.Native.Nat.{ℕ, _%_}
 use native.Mathlib.Omega.{arith}
 use lib.Dec.{eqb}
 use lib.ListN.{length}
-use Rattle.lists.specs.Base.{if_then_else_}
 use Rattle.lists.specs.Laws.{both, if-true, if-false}
 use Rattle.tables.specs.Rows.{length-rows}
 use Rattle.rules.specs.Types as rule
@@ -17,7 +16,7 @@ use Rattle.rule_laws.specs.Accepted.{books-sound}
 use Rattle.primitives.specs.declared.Settings.{Settings}
 use Rattle.primitives.specs.declared.Scalars.{Scalars}
 use Rattle.primitives.specs.Settings.{settings-of}
-use Rattle.records.specs.Books.{Tables, books-of, room-of, beyond-none}
+use Rattle.records.specs.Books.{Tables, room-of, beyond-none}
 use Rattle.records.specs.Reading.{room}
 use Rattle.acceptance.specs.Handed as handed
 use Rattle.acceptance.specs.Handed.{Accepted, accepted}

@@ -1,26 +1,24 @@
 -- The whole file: its length, its parts put one behind another, and what the writer answers.
 use mathlib.Core.Path.{_≡_, refl, sym, ap, _∙_}
-use mathlib.Core.Bool.{true, false}
+use mathlib.Core.Bool.{true}
 use mathlib.Core.List.{List, [], _∷_, _++_}
 use mathlib.Core.Option.{some}
 use Prim.Native.Nat.{ℕ, _+_, _*_, _≤_, _<_, _^_}
 use native.Mathlib.Omega.{arith}
 use lib.ListN.{length, take, drop, length-append}
 use lib.Seq.{take-at}
-use lib.Dec.{ltb, eqb}
 use borrow.Author.Tests.{lt-ltb, le-ltb, ne-eqb}
 use Rattle.lists.specs.Base.{if_then_else_, every}
 use Rattle.tables.specs.Rows.{rows}
 use Rattle.rules.specs.Types.{Settings}
 use Rattle.rules.specs.Calls.{handed-refusal}
-use Rattle.rule_laws.specs.Accepted.{SoundSettings}
 use Rattle.primitives.specs.declared.Scalars.{Scalars}
 use Rattle.records.specs.Layout.{validator-at, deposit-at, partial-at, consolidation-at}
 use Rattle.records.specs.Books.{Tables, books-of, room-of}
 use Rattle.records.specs.Reading.{validators-count, deposits-count, partials-count, consolidations-count}
 use Rattle.acceptance.specs.Handed.{accepted, facts}
 use Rattle.file_format.specs.Words.{words, is-byte, bytes, end-word, with-end}
-use Rattle.file_format.specs.Books.{validator, deposit, partial, consolidation, list-of, books-format}
+use Rattle.file_format.specs.Books.{validator, deposit, partial, consolidation, list-of}
 use Rattle.file_format.specs.File.{write-file, write-books, read-books}
 use Rattle.file_format.specs.FileLaws.{length-bytes}
 use Rattle.file_format.specs.Theorems.{accepted-read-written}

@@ -2,17 +2,17 @@
 use mathlib.Core.Path.{_≡_, refl, sym, ap, _∙_}
 use mathlib.Core.Bool.{true}
 use mathlib.Core.List.{List, [], _∷_, _++_, append-nil}
-use Prim.Native.Nat.{ℕ, _+_, _*_, _/_, _≤_, _<_}
+use Prim.Native.Nat.{ℕ, _+_, _*_, _≤_, _<_}
 use native.Mathlib.Omega.{arith}
-use lib.ListN.{length, take, drop, length-append, length-take, length-drop}
+use lib.ListN.{length, drop, length-append, length-take, length-drop}
 use borrow.Author.Tests.{leb-true}
 use Rattle.lists.specs.Base.{every}
 use Rattle.tables.specs.Rows.{rows, length-rows}
 use Rattle.tables.specs.Tests.{every-row}
 use Rattle.rules.specs.Types as rule
 use Rattle.rules.specs.Acceptance.{is-flag}
-use Rattle.records.specs.Layout.{validator-at, deposit-at, partial-at, consolidation-at, slashed-at}
-use Rattle.records.specs.Layout.{identities-fit, public-key-at, withdrawal-credentials-at}
+use Rattle.records.specs.Layout.{validator-at, slashed-at}
+use Rattle.records.specs.Layout.{identities-fit}
 use Rattle.records.specs.declared.validator.Validator.{Validator}
 use Rattle.records.specs.Plain.{plain-validator}
 use Rattle.file_format.specs.Words.{word}

@@ -1,5 +1,5 @@
 -- The words of a books file by its parts: the front, then the four counted lists.
-use mathlib.Core.Path.{_≡_, refl, sym, ap, _∙_}
+use mathlib.Core.Path.{_≡_, refl, ap, _∙_}
 use mathlib.Core.List.{List, [], _∷_, _++_}
 use Prim.Native.Nat.{ℕ, _*_, _≤_}
 use native.Mathlib.Omega.{arith}
@@ -8,7 +8,7 @@ use Rattle.rules.specs.Types as rule
 use Rattle.primitives.specs.declared.Scalars.{Scalars}
 use Rattle.records.specs.Books.{Tables, books-of}
 use Rattle.file_format.specs.Words.{word, books-head}
-use Rattle.file_format.specs.Fields.{Format, number, each, many}
+use Rattle.file_format.specs.Fields.{number, each, many}
 use Rattle.file_format.specs.Books.{settings, settings-numbers, validator, deposit, partial, consolidation, list-of}
 use Rattle.file_format.specs.Books.{books, books-format}
 use Rattle.file_format.specs.PutLaws.{put}

@@ -106,10 +106,6 @@ module _ (ws : List ℕ) (n k : ℕ) where
     unfolding many
     others-left = ap {B = List Operation} (λ us. call .value (drop k ws) ∷ many call n .value us) (sym h)
 
-    pub others-behind : many call (suc n) .rest (drop k ws) ≡ many call n .rest (drop next ws)
-    unfolding many
-    others-behind = ap (many call n .rest) (sym h)
-
 -- no call is longer than 258 words
 pub near : (ws : List ℕ) (k next : ℕ) → call .ok (drop k ws) ≡ true → drop next ws ≡ call .rest (drop k ws)
     → next ≤ length ws → next ≤ k + longest

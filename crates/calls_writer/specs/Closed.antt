@@ -14,7 +14,8 @@ use Rattle.file_format.specs.Answers.{one-more, over}
 use Rattle.file_format.specs.FieldsLaws.{word-kept}
 use Rattle.file_format.specs.FileLaws.{some-same}
 use Rattle.file_format.specs.PutLaws.{put}
-use Rattle.file_stores.specs.Laws.{words-front, put-next, put-length, put-closed, put-over}
+use Rattle.file_format.specs.FileLaws.{words-front}
+use Rattle.file_stores.specs.Laws.{put-next, put-length, put-closed, put-over}
 use Rattle.calls_writer.specs.Added.{Added}
 use Rattle.calls_writer.specs.Held.{held, held-few, calls-words, more-words, end-place, size-least, held-front}
 use Rattle.calls_writer.specs.Fits.{Fits}

@@ -20,6 +20,7 @@ use Rattle.rules.specs.Types as rule
 use Rattle.rules.specs.Calls.{withdrawals}
 use Rattle.expected_withdrawals.specs.declared.Withdrawal.{Withdrawal}
 use Rattle.expected_withdrawals.specs.Expected.{plain-withdrawal, padded, handed-list}
+use Rattle.expected_withdrawals.specs.Handed.{length-handed, past}
 use Rattle.expected_withdrawals.proofs.Withdrawal.{the-row}
 use Rattle.file_format.specs.Words.{word, is-byte}
 use Rattle.file_format.specs.Fields as fields
@@ -85,25 +86,6 @@ each-length (w ∷ ws) e =
     )
 
 -- ---- the handed list
-
-length-padded : (n : ℕ) (ws : List rule.Withdrawal) → length (padded n ws) ≡ n
-unfolding padded
-length-padded zero ws = refl
-length-padded (suc n) [] = ap suc (length-padded n [])
-length-padded (suc n) (w ∷ ws) = ap suc (length-padded n ws)
-
-length-handed : (list : List Withdrawal) (n : ℕ) → length (handed-list list n) ≡ n
-unfolding handed-list
-length-handed list n = length-padded n (map plain-withdrawal list)
-
--- what an array of records reads past its end
-abbrev past : Withdrawal
-past = record {
-  index = record { 0 = 0 };
-  «validator_index» = record { 0 = 0 };
-  address = [];
-  amount = record { 0 = 0 };
-}
 
 handed-rows : (list : List Withdrawal) (n : ℕ) → n ≤ length list
     → handed-list list n ≡ rows n (λ j. plain-withdrawal (getD list j past))

@@ -36,7 +36,7 @@ fn reward(
         ⌝ }
 {
     let call = calls_reader::amount_at(file, k);
-    electra::reward::reward_accepted(
+    rewards::reward::reward_accepted(
         settings,
         scalars,
         identities,
@@ -76,7 +76,7 @@ fn penalty(
         ⌝ }
 {
     let call = calls_reader::amount_at(file, k);
-    electra::penalty::penalty_accepted(
+    rewards::penalty::penalty_accepted(
         settings,
         scalars,
         identities,
@@ -118,7 +118,7 @@ fn deposit_receipt(
     let call = calls_reader::receipt_at(file, k);
     let public_key = call.public_key;
     let withdrawal_credentials = call.withdrawal_credentials;
-    block_processing::receipts::process_deposit_receipt(
+    receipt_operations::process_deposit_receipt(
         settings,
         scalars,
         identities,
@@ -161,7 +161,7 @@ fn voluntary_exit(
         ⌝ }
 {
     let call = calls_reader::exit_at(file, k);
-    block_processing::exits::process_voluntary_exit(
+    exit_operations::process_voluntary_exit(
         settings,
         scalars,
         identities,
@@ -204,7 +204,7 @@ fn withdrawal_request(
     let call = calls_reader::request_at(file, k);
     let source_address = call.source_address;
     let public_key = call.public_key;
-    block_processing::requests::process_execution_layer_withdrawal_request(
+    request_operations::process_execution_layer_withdrawal_request(
         settings,
         scalars,
         identities,
@@ -245,7 +245,7 @@ fn consolidation(
         ⌝ }
 {
     let call = calls_reader::consolidation_at(file, k);
-    block_processing::consolidations::process_consolidation(
+    consolidation_operations::process_consolidation(
         settings,
         scalars,
         identities,
@@ -286,7 +286,7 @@ fn turn(
         (now (partials .entry)) (now (consolidations .exit))) (r .number) (r .scalars)
         ⌝ }
 {
-    electra::turns::turn_accepted(
+    epoch_turns::turn_accepted(
         settings,
         scalars,
         identities,

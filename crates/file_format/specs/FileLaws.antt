@@ -1,7 +1,7 @@
 -- The laws of whole files, for any format whose laws hold.
 use mathlib.Core.Path.{_≡_, refl, sym, ap, _∙_}
 use mathlib.Core.Bool.{Bool, true, false, _&&_}
-use mathlib.Core.List.{List, [], _∷_, _++_}
+use mathlib.Core.List.{List, [], _∷_, _++_, append-nil}
 use mathlib.Core.Option.{some, none}
 use Prim.Native.Nat.{ℕ, _+_, _-_, _*_, _/_, _%_, _^_, _<_}
 use native.Mathlib.Omega.{arith}
@@ -18,15 +18,18 @@ use Rattle.file_format.specs.FieldsLaws.{fits, Lawful, word-fits}
 
 -- ---- bytes and words
 
-pub words-bytes : (ws : List ℕ) → words (bytes ws) ≡ ws
-words-bytes [] = refl
-words-bytes (w ∷ ws) =
+pub words-front : (ws rest : List ℕ) → words (bytes ws ++ rest) ≡ ws ++ words rest
+words-front [] rest = refl
+words-front (w ∷ ws) rest =
     let a = w % 256 in
     let b = w / 256 % 256 in
     let c = w / 256 / 256 % 256 in
     let d = w / 256 / 256 / 256 in
     let e : a + b * 256 + c * 65536 + d * 16777216 ≡ w = omega arith in
-    λ i. e i ∷ words-bytes ws i
+    λ i. e i ∷ words-front ws rest i
+
+pub words-bytes : (ws : List ℕ) → words (bytes ws) ≡ ws
+words-bytes ws = ap words (sym (append-nil (bytes ws))) ∙ words-front ws [] ∙ append-nil ws
 
 pub length-bytes : (ws : List ℕ) → length (bytes ws) ≡ 4 * length ws
 length-bytes [] = refl

@@ -44,10 +44,6 @@ listed F n p ws = rows (count-at ws p) (λ i. F .value (drop (p + 1 + i * n) ws)
 abbrev pub listed-ok : {A : Type 0} → Format A → (p : ℕ) → List ℕ → Bool
 listed-ok F p ws = is-word 2 (2 ^ 28) (getD ws p 0) && many F (count-at ws p) .ok (drop (p + 1) ws)
 
--- one number of every record: the first at word k, n words a record
-abbrev pub column : List ℕ → (k n count : ℕ) → List ℕ
-column ws k n count = rows count (λ i. number-at ws (k + i * n))
-
 -- ---- settings and books by places
 
 abbrev pub settings-at : List ℕ → Settings

@@ -1,23 +1,22 @@
 -- The books file read by places is the books file read from the front.
 use mathlib.Core.Path.{_≡_, refl, sym, ap, _∙_}
-use mathlib.Core.Bool.{Bool, true, _&&_}
-use mathlib.Core.List.{List, [], _∷_, map}
+use mathlib.Core.Bool.{true, _&&_}
+use mathlib.Core.List.{List, [], _∷_}
 use Prim.Native.Nat.{ℕ, zero, suc, _+_, _*_, _/_, _%_, _^_, _≤_, _<_}
 use native.Mathlib.Nat.{not-suc-le-zero, mod-add-mod, add-zero}
 use native.Mathlib.Omega.{arith}
 use lib.ListN.{length, getD, take, drop}
 use lib.Seq.{drop-drop, getD-drop, take-suc}
 use lib.Dec.{eqb}
-use Rattle.lists.specs.Base.{if_then_else_, every, total}
+use Rattle.lists.specs.Base.{if_then_else_, total}
 use Rattle.lists.specs.Laws.{both, total-append}
-use Rattle.rules.specs.Types.{Validator}
 use Rattle.file_format.specs.Words.{word, payload, is-word, wrapping-sum, words}
 use Rattle.file_format.specs.Fields.{Format, number, flag, field, field-value, first, second, third, many}
 use Rattle.file_format.specs.Books.{settings, settings-of, validator, validator-of, deposit, partial}
 use Rattle.file_format.specs.Books.{consolidation, list-of, books, books-of, books-format}
 use Rattle.file_format.specs.Places.{number-at, count-at, deposits-place, partials-place, consolidations-place}
-use Rattle.file_format.specs.Places.{end-place, listed, listed-ok, column, settings-at, books-at}
-use Rattle.tables.specs.Rows.{rows, rows-snoc, map-rows}
+use Rattle.file_format.specs.Places.{end-place, listed-ok, settings-at, books-at}
+use Rattle.tables.specs.Rows.{rows}
 use Rattle.file_format.specs.AccessLaws.{Fixed, fixed-at, fixed-number, fixed-flag, fixed-key, fixed-credentials}
 use Rattle.file_format.specs.AccessLaws.{fixed-numbers, fixed-validator, fixed-deposit, fixed-partial}
 use Rattle.file_format.specs.AccessLaws.{fixed-consolidation, many-value-at, many-good}
@@ -257,42 +256,3 @@ good-validator ws e =
       slashed = ap (flag .ok) (sym b) ∙ u .0;
       numbers = λ j h. numbers-good 6 28 j ws h (ap (many number 6 .ok) (sym c) ∙ u .1);
     }
-
--- ---- one number of every record
-
--- the number that stands m words into each record of a counted list
-pub listed-column : {A : Type 0} (F : Format A) (n p m : ℕ) (g : A → ℕ)
-    → ((us : List ℕ) → g (F .value us) ≡ number-at us m) → (ws : List ℕ)
-    → map g (listed F n p ws) ≡ column ws (p + 1 + m) n (count-at ws p)
-listed-column F n p m g h ws =
-    let e : (i : ℕ) → p + 1 + i * n + m ≡ p + 1 + m + i * n = λ i. omega arith in
-    let k = count-at ws p in
-    map-rows g k (λ i. F .value (drop (p + 1 + i * n) ws))
-    ∙ (λ j. rows k (λ i. h (drop (p + 1 + i * n) ws) j))
-    ∙ (λ j. rows k (λ i. number .value (drop-drop m (p + 1 + i * n) ws j)))
-    ∙ (λ j. rows k (λ i. number-at ws (e i j)))
-
-pub total-map : {A : Type 0} (g : A → ℕ) (xs : List A) → total g xs ≡ total (λ n. n) (map g xs)
-total-map g [] = refl
-total-map g (x ∷ xs) = ap (λ n. g x + n) (total-map g xs)
-
-pub every-map : {A : Type 0} (t : ℕ → Bool) (g : A → ℕ) (xs : List A) → every (λ x. t (g x)) xs ≡ every t (map g xs)
-every-map t g [] = refl
-every-map t g (x ∷ xs) = ap (λ s. t (g x) && s) (every-map t g xs)
-
--- so the balances are a column of the file
-pub balances-column : (ws : List ℕ)
-    → total (λ v. v .balance) (listed validator 46 85 ws) ≡ total (λ n. n) (column ws 129 46 (count-at ws 85))
-balances-column ws =
-    let balance : Validator → ℕ = λ v. v .balance in
-    total-map balance (listed validator 46 85 ws)
-    ∙ ap (total (λ n. n)) (listed-column validator 46 85 43 balance (λ us. ap balance (validator-at us)) ws)
-
--- for a loop that adds a column up
-pub column-more : (ws : List ℕ) (k n i : ℕ)
-    → total (λ x. x) (column ws k n (suc i)) ≡ total (λ x. x) (column ws k n i) + number-at ws (k + i * n)
-column-more ws k n i =
-    let x = number-at ws (k + i * n) in
-    ap (total (λ x. x)) (rows-snoc i (λ j. number-at ws (k + j * n)))
-    ∙ total-append (λ x. x) (column ws k n i) (x ∷ [])
-    ∙ omega arith

@@ -84,38 +84,6 @@ module _ (ws : List ℕ) (k : ℕ) where
         balance = number-behind 43 j;
       }
 
-  -- a validator whose fields are those
-  pub validator-read : {key credentials : List ℕ} {s b₁ b₂ b₃ b₄ b₅ b₆ : ℕ}
-      → key ≡ field 48 .value (drop k ws) → credentials ≡ field 32 .value (drop (k + 16) ws)
-      → s ≡ flag .value (drop (k + 27) ws) → b₁ ≡ number-at ws (k + 28) → b₂ ≡ number-at ws (k + 31)
-      → b₃ ≡ number-at ws (k + 34) → b₄ ≡ number-at ws (k + 37) → b₅ ≡ number-at ws (k + 40)
-      → b₆ ≡ number-at ws (k + 43)
-      → record {
-        public-key = key;
-        withdrawal-credentials = credentials;
-        slashed = s;
-        effective-balance = b₁;
-        activation-eligibility-epoch = b₂;
-        activation-epoch = b₃;
-        exit-epoch = b₄;
-        withdrawable-epoch = b₅;
-        balance = b₆;
-      }
-      ≡ validator .value (drop k ws)
-  validator-read d e f g₁ g₂ g₃ g₄ g₅ g₆ =
-      (λ j. record {
-        public-key = d j;
-        withdrawal-credentials = e j;
-        slashed = f j;
-        effective-balance = g₁ j;
-        activation-eligibility-epoch = g₂ j;
-        activation-epoch = g₃ j;
-        exit-epoch = g₄ j;
-        withdrawable-epoch = g₅ j;
-        balance = g₆ j;
-      })
-      ∙ sym validator-there
-
   -- what the reads of a validator need
   pub record ValidatorThere : Type 0 where
     pub key : field 48 .ok (drop k ws) ≡ true

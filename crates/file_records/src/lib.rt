@@ -1,12 +1,9 @@
-// The settings, the scalars and the records of a books file, read by value where they stand. Only what was judged good
-// is read, so nothing is tested here.
+// The settings, the scalars and the queues' records of a books file, read by value where they stand. Only what was
+// judged good is read, so nothing is tested here.
 use books_file::consolidations_place;
 use books_file::deposits_place;
 use books_file::partials_place;
-use file_bytes::credentials_at;
-use file_bytes::key_at;
 use file_words::count_at;
-use file_words::flag_at;
 use file_words::number_at;
 use primitives::Epoch;
 use primitives::Gwei;
@@ -17,18 +14,16 @@ use primitives::WithdrawalIndex;
 use records::queues::PendingBalanceDeposit;
 use records::queues::PendingConsolidation;
 use records::queues::PendingPartialWithdrawal;
-use records::validator::Validator;
 ghost use mathlib.Core.Path.{_≡_};
 ghost use mathlib.Core.Bool.{true};
 ghost use Prim.Native.Nat.{_+_, _*_, _≤_, _^_};
 ghost use lib.ListN.{drop};
 ghost use Rattle.tables.specs.Rows.{rows};
 ghost use Rattle.primitives.specs.Settings.{settings-of};
-ghost use Rattle.records.specs.Plain.{plain-validator, plain-deposit, plain-partial, plain-consolidation};
+ghost use Rattle.records.specs.Plain.{plain-deposit, plain-partial, plain-consolidation};
 ghost use Rattle.file_format.specs.Words.{words};
-ghost use Rattle.file_format.specs.Fields.{number};
 ghost use Rattle.file_format.specs.Books as file;
-ghost use Rattle.file_format.specs.Books.{validator, deposit, partial, consolidation};
+ghost use Rattle.file_format.specs.Books.{deposit, partial, consolidation};
 ghost use Rattle.file_format.specs.Places.{number-at, settings-at};
 ghost use Rattle.file_format.specs.PlacesLaws.{Good};
 ghost use Rattle.file_records.specs.Scalars.{scalars-from, scalars-at};
@@ -126,26 +121,6 @@ pub fn scalars_at(file: &[u8]) -> Scalars
 }
 
 // ---- records, from word k on
-
-pub fn validator_at(file: &[u8], k: usize) -> Validator
-    requires { ⌜ k ≤ 2 ^ 39 ⌝ }
-    requires { ⌜ validator .ok (drop k (words (now file))) ≡ true ⌝ }
-    ensures { λ r. ⌜ plain-validator r ≡ validator .value (drop k (words (now (file .entry)))) ⌝ }
-{
-    let public_key = key_at(file, k);
-    let withdrawal_credentials = credentials_at(file, k + 16);
-    Validator {
-        public_key,
-        withdrawal_credentials,
-        slashed: flag_at(file, k + 27) as u64,
-        effective_balance: Gwei(number_at(file, k + 28)),
-        activation_eligibility_epoch: Epoch(number_at(file, k + 31)),
-        activation_epoch: Epoch(number_at(file, k + 34)),
-        exit_epoch: Epoch(number_at(file, k + 37)),
-        withdrawable_epoch: Epoch(number_at(file, k + 40)),
-        balance: Gwei(number_at(file, k + 43)),
-    }
-}
 
 pub fn deposit_at(file: &[u8], k: usize) -> PendingBalanceDeposit
     requires { ⌜ k ≤ 2 ^ 39 ⌝ }

@@ -13,7 +13,7 @@ use Rattle.file_format.specs.Words.{word, words, bytes, end-word, with-end, wra
 use Rattle.file_format.specs.Fields.{number, flag, three-bytes, field-words, each}
 use Rattle.file_format.specs.Calls.{signature}
 use Rattle.file_format.specs.Answers.{over}
-use Rattle.file_format.specs.FileLaws.{length-bytes}
+use Rattle.file_format.specs.FileLaws.{words-front, length-bytes}
 use Rattle.file_format.specs.PutLaws.{put, put-put, put-word, length-put}
 
 -- ---- one group of words behind another
@@ -213,16 +213,6 @@ field-done xs out last k i h l f =
     ∙ ap (put out k) (each-one (rows i (field-word xs)) ∙ ap (λ m. rows m (field-word xs)) q ∙ field-by-words xs)
 
 -- ---- the end word
-
-pub words-front : (ws rest : List ℕ) → words (bytes ws ++ rest) ≡ ws ++ words rest
-words-front [] rest = refl
-words-front (w ∷ ws) rest =
-    let a = w % 256 in
-    let b = w / 256 % 256 in
-    let c = w / 256 / 256 % 256 in
-    let d = w / 256 / 256 / 256 in
-    let e : a + b * 256 + c * 65536 + d * 16777216 ≡ w = omega arith in
-    λ i. e i ∷ words-front ws rest i
 
 -- the words before the end word are those that were put
 words-put : (out : List ℕ) (ws : List ℕ) (n : ℕ) → n ≡ length ws → take n (words (put out 0 ws)) ≡ ws

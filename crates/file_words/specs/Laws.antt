@@ -15,7 +15,7 @@ use Rattle.file_format.specs.Words.{words, payload, is-word, wrapping-sum}
 use Rattle.file_format.specs.Fields.{Format, number, flag, field, field-ok, is-three-bytes, second, third, many}
 use Rattle.file_format.specs.File.{ends}
 use Rattle.file_format.specs.Places.{number-at}
-use Rattle.file_format.specs.AccessLaws.{Fixed}
+use Rattle.file_format.specs.AccessLaws.{Fixed, fixed-number, fixed-numbers}
 use Rattle.file_format.specs.AccessLaws.{getD-at}
 use Rattle.file_format.specs.AccessLaws.{and-true, and-assoc, many-step, many-broken}
 use Rattle.file_format.specs.PlacesLaws.{length-words, word-at, sum-step, number-words-at}
@@ -46,6 +46,20 @@ number-judged ws k low middle top a b c s r e₁ e₂ e₃ e₄ e₅ e₆ e₇ e
     let y = getD-drop k ws 1 0 in
     let z = getD-drop k ws 2 0 in
     cc
+
+-- a number lies within the file
+pub number-inside : (bs : List ℕ) (k : ℕ) → number .ok (drop k (words bs)) ≡ true → k + 3 ≤ length bs / 4
+number-inside bs k e =
+    omega (arith, fixed-number .long (drop k (words bs)) e, length-drop k (words bs), length-words bs)
+
+pub number-outside : (bs : List ℕ) (k : ℕ) → length bs / 4 < k + 3 → false ≡ number .ok (drop k (words bs))
+number-outside bs k h = go (number .ok (drop k (words bs))) refl
+  where
+    go : (t : Bool) → number .ok (drop k (words bs)) ≡ t → false ≡ t
+    go true e =
+        let z : ⊥ = omega (arith, number-inside bs k e) in
+        absurd z
+    go false e = refl
 
 pub flag-judged : (ws : List ℕ) (k w : ℕ) (r : Bool) → w ≡ getD ws k 0 → r ≡ is-word 7 2 w → r ≡ flag .ok (drop k ws)
 unfolding flag
@@ -90,6 +104,13 @@ module _ {A : Type 0} (F : Format A) (m : ℕ) (f : Fixed F m) (ws : List ℕ) (
       → not r ≡ false → many F (i + 1) .ok (drop k ws) ≡ true
   many-more i r h e g = rw add-one (many-step F m f i (drop k ws) ∙ join h (at-place i ∙ sym e ∙ not-false r g))
 
+  -- a loop that does not stop: what was good so far, and the next
+  pub many-and : (i : ℕ) (g r s : Bool) → g ≡ many F i .ok (drop k ws) → r ≡ F .ok (drop (k + i * m) ws) → s ≡ g && r
+      → s ≡ many F (i + 1) .ok (drop k ws)
+  many-and i g r s e h a =
+      rw add-one
+      (a ∙ (λ j. e j && (h ∙ sym (at-place i)) j) ∙ sym (many-step F m f i (drop k ws)))
+
 pub many-start : {A : Type 0} (F : Format A) (us : List ℕ) → many F 0 .ok us ≡ true
 unfolding many
 many-start F us = refl
@@ -100,13 +121,35 @@ many-end F us n i h g e =
     let q : i ≡ n = omega arith in
     sym (rw q at e)
 
--- ---- a field of bytes
+pub many-done : {A : Type 0} (F : Format A) (us : List ℕ) (n i : ℕ) (g : Bool) → i ≤ n → n ≤ i → g ≡ many F i .ok us
+    → g ≡ many F n .ok us
+many-done F us n i g h l e =
+    let q : i ≡ n = omega arith in
+    rw q at e
 
 -- two tests that say the same
 same-test : (s t : Bool) → (s ≡ true → t ≡ true) → (t ≡ true → s ≡ true) → s ≡ t
 same-test true t p q = sym (p refl)
 same-test false true p q = q refl
 same-test false false p q = refl
+
+-- of numbers that do not lie within the file, none are good
+pub numbers-outside : (bs : List ℕ) (k n : ℕ) → length bs / 4 < k + n * 3
+    → eqb n 0 ≡ many number n .ok (drop k (words bs))
+numbers-outside bs k n h = same-test (eqb n 0) (many number n .ok (drop k (words bs))) there back
+  where
+    there : eqb n 0 ≡ true → many number n .ok (drop k (words bs)) ≡ true
+    there e =
+        let z : n ≡ 0 = eqb-true _ _ e in
+        rw z (many-start number (drop k (words bs)))
+
+    back : many number n .ok (drop k (words bs)) ≡ true → eqb n 0 ≡ true
+    back e =
+        let long = fixed-numbers n .long (drop k (words bs)) e in
+        let z : n ≡ 0 = omega (arith, length-drop k (words bs), length-words bs) in
+        eq-eqb _ _ z
+
+-- ---- a field of bytes
 
 -- q full words, then r bytes
 field-split : (q r : ℕ) (us : List ℕ) → field-ok (q * 3 + r) us ≡ field-ok (q * 3) us && field-ok r (drop q us)
@@ -128,29 +171,27 @@ triples-step i us =
     let one = and-true (is-three-bytes (getD (drop i us) 0 0)) ∙ ap is-three-bytes (getD-at i us) in
     ap (λ n. field-ok n us) a ∙ field-split i 3 us ∙ ap (λ t. field-ok (i * 3) us && t) one
 
-module _ (ws : List ℕ) (k i w : ℕ) (r : Bool) (p : w ≡ getD ws (k + i) 0) (e : r ≡ is-word 6 (2 ^ 24) w) where
-  triple-there : r ≡ is-three-bytes (getD (drop k ws) i 0)
-  triple-there = e ∙ ap is-three-bytes (p ∙ sym (getD-drop k ws i 0))
+pub triples-and : (ws : List ℕ) (k i w : ℕ) (g r s : Bool) → g ≡ field-ok (i * 3) (drop k ws)
+    → w ≡ getD ws (k + i) 0 → r ≡ is-word 6 (2 ^ 24) w → s ≡ g && r → s ≡ field-ok ((i + 1) * 3) (drop k ws)
+triples-and ws k i w g r s h p e a =
+    let there : r ≡ is-three-bytes (getD (drop k ws) i 0) = e ∙ ap is-three-bytes (p ∙ sym (getD-drop k ws i 0)) in
+    rw add-one (a ∙ (λ j. h j && there j) ∙ sym (triples-step i (drop k ws)))
 
-  pub triples-stopped : (n : ℕ) → i < n → not r ≡ true → false ≡ field-ok (n * 3) (drop k ws)
-  triples-stopped n h g =
-      let us = drop k ws in
-      let rest : n * 3 ≡ suc i * 3 + (n * 3 - suc i * 3) = omega arith in
-      let no = sym triple-there ∙ not-true r g in
-      let stop = triples-step i us ∙ and-false (field-ok (i * 3) us) (is-three-bytes (getD us i 0)) no in
-      sym
-      (ap (λ n. field-ok n us) rest
-      ∙ field-split (suc i) (n * 3 - suc i * 3) us
-      ∙ ap (λ t. t && field-ok (n * 3 - suc i * 3) (drop (suc i) us)) stop)
-
-  pub triples-more : field-ok (i * 3) (drop k ws) ≡ true → not r ≡ false → field-ok ((i + 1) * 3) (drop k ws) ≡ true
-  triples-more h g =
-      rw add-one (triples-step i (drop k ws) ∙ join h (sym triple-there ∙ not-false r g))
-
-pub triples-end : (us : List ℕ) (n i : ℕ) → i ≤ n → n ≤ i → field-ok (i * 3) us ≡ true → true ≡ field-ok (n * 3) us
-triples-end us n i h g e =
+pub triples-end : (us : List ℕ) (n i : ℕ) (g : Bool) → i ≤ n → n ≤ i → g ≡ field-ok (i * 3) us → g ≡ field-ok (n * 3) us
+triples-end us n i g h l e =
     let q : i ≡ n = omega arith in
-    sym (rw q at e)
+    rw q at e
+
+-- of words that do not lie within the file, the last is 0, which is of no kind
+pub triples-outside : (bs : List ℕ) (k n : ℕ) → length bs / 4 < k + n → eqb n 0 ≡ field-ok (n * 3) (drop k (words bs))
+triples-outside bs k zero h = refl
+triples-outside bs k (suc n) h =
+    let us = drop k (words bs) in
+    let behind : length us ≤ n = omega (arith, length-drop k (words bs), length-words bs) in
+    let none : getD us n 0 ≡ 0 = List·getD-eq-default us 0 behind in
+    let no : is-three-bytes (getD us n 0) ≡ false = ap is-three-bytes none in
+    ne-eqb (suc n) 0 (λ q. omega arith)
+    ∙ sym (triples-step n us ∙ and-false (field-ok (n * 3) us) (is-three-bytes (getD us n 0)) no)
 
 -- the padding of a word with two bytes, and with one
 one-zero : (w : ℕ) → eqb (w % 256) 0 ≡ eqb (third w) 0

@@ -1,10 +1,11 @@
 // The fields of a file, read where they stand: whether the words from word k on are one, and which. A word behind the end
-// reads as 0, which is of no kind, so no function asks for the file's length.
+// reads as 0, which is of no kind. A loop asks once whether all its words are there, and then stops at none: so the
+// compiler takes several words at a time.
 ghost use mathlib.Core.Path.{_≡_};
 ghost use mathlib.Core.Bool.{true, _&&_};
 ghost use Prim.Native.Nat.{_+_, _*_, _/_, _%_, _≤_, _<_, _^_};
 ghost use lib.ListN.{length, getD, drop, take};
-ghost use Rattle.file_format.specs.Words.{words, payload, is-word, wrapping-sum};
+ghost use Rattle.file_format.specs.Words.{words, is-word, wrapping-sum};
 ghost use Rattle.file_format.specs.Fields.{number, flag, field, field-ok, many};
 ghost use Rattle.file_format.specs.File.{ends};
 ghost use Rattle.file_format.specs.Places.{number-at, count-at};
@@ -23,13 +24,21 @@ fn word_of(a: u8, b: u8, c: u8, d: u8) -> u32
     a as u32 + b as u32 * 256 + c as u32 * 65536 + d as u32 * 16777216
 }
 
+// Word k, which is there.
+pub fn word_within(file: &[u8], k: usize) -> u32
+    requires { ⌜ k < length (now file) / 4 ⌝ }
+    ensures { λ r. ⌜ r ≡ getD (words (now (file .entry))) k 0 ⌝ }
+{
+    let at = k * 4;
+    word_of(file[at], file[at + 1], file[at + 2], file[at + 3])
+}
+
 // Word k; 0 behind the end.
 pub fn word_at(file: &[u8], k: usize) -> u32
     ensures { λ r. ⌜ r ≡ getD (words (now (file .entry))) k 0 ⌝ }
 {
     if k < file.len() / 4 {
-        let at = k * 4;
-        return word_of(file[at], file[at + 1], file[at + 2], file[at + 3]);
+        return word_within(file, k);
     }
     0
 }
@@ -42,17 +51,28 @@ pub fn is_word(kind: u32, limit: u32, w: u32) -> bool
 
 // ---- fields, from word k on
 
-pub fn number_ok(file: &[u8], k: usize) -> bool
-    requires { ⌜ k ≤ 2 ^ 40 ⌝ }
+// Three words, which are there.
+fn number_within(file: &[u8], k: usize) -> bool
+    requires { ⌜ k + 3 ≤ length (now file) / 4 ⌝ }
     ensures { λ r. ⌜ r ≡ number .ok (drop k (words (now (file .entry)))) ⌝ }
 {
-    let low = word_at(file, k);
-    let middle = word_at(file, k + 1);
-    let top = word_at(file, k + 2);
+    let low = word_within(file, k);
+    let middle = word_within(file, k + 1);
+    let top = word_within(file, k + 2);
     both(
         is_word(3, 0x1000_0000, low),
         both(is_word(4, 0x1000_0000, middle), is_word(5, 256, top)),
     )
+}
+
+pub fn number_ok(file: &[u8], k: usize) -> bool
+    requires { ⌜ k ≤ 2 ^ 40 ⌝ }
+    ensures { λ r. ⌜ r ≡ number .ok (drop k (words (now (file .entry)))) ⌝ }
+{
+    if file.len() / 4 < k + 3 {
+        return false;
+    }
+    number_within(file, k)
 }
 
 // n numbers.
@@ -60,14 +80,16 @@ pub fn numbers_ok(file: &[u8], k: usize, n: usize) -> bool
     requires { ⌜ k + n * 3 ≤ 2 ^ 40 ⌝ }
     ensures { λ r. ⌜ r ≡ many number n .ok (drop k (words (now (file .entry)))) ⌝ }
 {
+    if file.len() / 4 < k + n * 3 {
+        return n == 0;
+    }
+    let mut good = true;
     let mut i: usize = 0;
     while i < n {
-        if !number_ok(file, k + i * 3) {
-            return false;
-        }
+        good = both(good, number_within(file, k + i * 3));
         i += 1;
     }
-    true
+    good
 }
 
 pub fn flag_ok(file: &[u8], k: usize) -> bool
@@ -81,14 +103,16 @@ pub fn triples_ok(file: &[u8], k: usize, n: usize) -> bool
     requires { ⌜ k + n ≤ 2 ^ 40 ⌝ }
     ensures { λ r. ⌜ r ≡ field-ok (n * 3) (drop k (words (now (file .entry)))) ⌝ }
 {
+    if file.len() / 4 < k + n {
+        return n == 0;
+    }
+    let mut good = true;
     let mut i: usize = 0;
     while i < n {
-        if !is_word(6, 0x100_0000, word_at(file, k + i)) {
-            return false;
-        }
+        good = both(good, is_word(6, 0x100_0000, word_within(file, k + i)));
         i += 1;
     }
-    true
+    good
 }
 
 // A field of n bytes: n / 3 full words, and one that ends in zero bytes where some bytes are left.
@@ -126,9 +150,9 @@ pub fn number_at(file: &[u8], k: usize) -> u64
     requires { ⌜ number .ok (drop k (words (now file))) ≡ true ⌝ }
     ensures { λ r. ⌜ r ≡ number-at (words (now (file .entry))) k ⌝ }
 {
-    let low = word_at(file, k);
-    let middle = word_at(file, k + 1);
-    let top = word_at(file, k + 2);
+    let low = word_within(file, k);
+    let middle = word_within(file, k + 1);
+    let top = word_within(file, k + 2);
     joined(low % 0x1000_0000, middle % 0x1000_0000, top % 0x1000_0000)
 }
 
@@ -163,7 +187,7 @@ pub fn words_sum(file: &[u8], n: usize) -> u32
     let mut sum: u32 = 0;
     let mut i: usize = 0;
     while i < n {
-        let w = word_at(file, i);
+        let w = word_within(file, i);
         sum = std::num::wrapping_add_u32(sum, w);
         i += 1;
     }

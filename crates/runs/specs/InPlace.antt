@@ -3,9 +3,8 @@
 use mathlib.Core.Path.{_≡_, refl, sym, ap, _∙_}
 use mathlib.Core.List.{List, [], _∷_, map}
 use Prim.Native.Nat.{ℕ}
-use lib.ListN.{length}
 use Rattle.rules.specs.Types.{Settings}
-use Rattle.rules.specs.Calls.{Operation, Call, Room, run}
+use Rattle.rules.specs.Calls.{Operation, Call, run}
 use Rattle.primitives.specs.declared.Scalars.{Scalars}
 use Rattle.records.specs.Books.{Tables, books-of, room-of, call-on, Called}
 use Rattle.records.specs.Fixed.{SameSizes, called-fixed}

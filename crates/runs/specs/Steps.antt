@@ -6,7 +6,7 @@ use Prim.Native.Nat.{ℕ, zero, suc, _+_, _-_, _*_, _≤_, _<_}
 use native.Mathlib.Nat.{sub-zero}
 use native.Mathlib.Omega.{arith}
 use lib.ListN.{length, take, drop, set, length-set, length-map, take-append-drop}
-use lib.Seq.{drop-drop, drop-set-lt, take-set-le, take-suc-set, length-take-le}
+use lib.Seq.{drop-drop, drop-set-lt, take-suc-set}
 use Rattle.rules.specs.Types as rule
 use Rattle.rules.specs.Acceptance.{held}
 use Rattle.rules.specs.Calls.{Operation, answer, after}

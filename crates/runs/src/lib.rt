@@ -4,7 +4,6 @@ pub mod lines; // one call with its line in the results
 use primitives::Scalars;
 use primitives::Settings;
 use primitives::answers;
-ghost use mathlib.Core.Path.{_≡_};
 ghost use Prim.Native.Nat.{_*_, _≤_};
 ghost use lib.ListN.{length};
 ghost use Rattle.primitives.specs.Settings.{settings-of};

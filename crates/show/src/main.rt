@@ -1,5 +1,5 @@
-// Prints a file of books or of calls as plain text, one record a line. The file is read word by word through a buffer, so
-// that its size does not matter; at the first word that is not as it should be the text ends in `broken`.
+// Prints a file of books or of calls as plain text, one record a line. The file is read word by word through a buffer,
+// so that its size does not matter; at the first word that is not as it should be the text ends in a line `broken`.
 mod pattern; // text from a pattern and the words of the file
 mod words; // the words of the file, one after another
 
@@ -332,7 +332,7 @@ fn end(reading: Reading, buf: &mut [u8; 65536], out: &mut [u8; 65536]) {
     if good {
         io::write_all(STDOUT_FILENO, b"end\n");
     } else {
-        io::write_all(STDOUT_FILENO, b"broken\n");
+        io::write_all(STDOUT_FILENO, b"\nbroken\n");
     }
 }
 

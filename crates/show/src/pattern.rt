@@ -1,5 +1,6 @@
-// Text from a pattern. A capital letter stands for a field, which is read from the file: N a number, F a flag, K a key of
-// 48 bytes, C credentials of 32, A an address of 20; I stands for the position that is handed in. All else is copied.
+// Text from a pattern. A capital letter stands for a field, which is read from the file: N a number, F a flag, K a key
+// of 48 bytes, C credentials of 32, A an address of 20; I stands for the position that is handed in. All else is
+// copied.
 use crate::words::Reading;
 use crate::words::next;
 use libc::STDOUT_FILENO;

@@ -58,6 +58,11 @@ fit-true {f} e n = sym e ∙ not-not f n
 pub fit-false : {f g : Bool} → f ≡ g → not f ≡ true → g ≡ false
 fit-false {f} e n = sym e ∙ not-true f n
 
+pub fit-two : (a b : Bool) → (a && b) ≡ all (a ∷ b ∷ [])
+unfolding all
+fit-two true b = sym (and-true b)
+fit-two false b = refl
+
 pub fit-three : (a b c : Bool) → ((a && b) && c) ≡ all (a ∷ b ∷ c ∷ [])
 unfolding all
 fit-three true true c = sym (and-true c)

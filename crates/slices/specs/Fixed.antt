@@ -15,7 +15,7 @@ use Rattle.slices.specs.Numbers.{scalars-in, scalar-numbers, stored-same
 use Rattle.slices.specs.Exported.{rules-in, fit, Exported, unfit-refused}
 
 -- slices with the same scalars and the same numbers past them
-scalars-fixed : (r q : List ℕ) → 13 ≤ length r → 13 ≤ length q → scalars-in r ≡ scalars-in q → drop 13 r ≡ drop 13 q
+pub scalars-fixed : (r q : List ℕ) → 13 ≤ length r → 13 ≤ length q → scalars-in r ≡ scalars-in q → drop 13 r ≡ drop 13 q
     → r ≡ q
 scalars-fixed r q h k e p =
     sym (stored-same r h) ∙ ap₂ (λ s l. scalar-numbers s ++ l) e p ∙ stored-same q k

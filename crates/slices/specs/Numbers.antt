@@ -1,8 +1,7 @@
 -- Settings and scalars as slices of numbers, in the order of their structs. A number that is missing reads as 0.
 use mathlib.Core.Path.{_≡_, refl, ap, sym, _∙_}
 use mathlib.Core.List.{List, [], _∷_, _++_}
-use Prim.Native.Nat.{ℕ, _<_, _≤_}
-use native.Mathlib.Omega.{arith}
+use Prim.Native.Nat.{ℕ, _≤_}
 use lib.ListN.{length, getD, take, drop, take-append-drop}
 use lib.Seq.{getD-take, length-take-le}
 use Rattle.tables.specs.Rows.{rows, rows-ext, rows-getD}
@@ -13,6 +12,34 @@ use Rattle.primitives.specs.Profiles.{row-settings}
 -- nineteen numbers: the chain values, then the four limits
 abbrev pub settings-in : List ℕ → Settings
 settings-in xs = row-settings xs (getD xs 15 0) (getD xs 16 0) (getD xs 17 0) (getD xs 18 0)
+
+-- the numbers of settings
+abbrev pub setting-numbers : Settings → List ℕ
+setting-numbers s =
+    s .«min_activation_balance» .0
+    ∷ s .«max_effective_balance_electra» .0
+    ∷ s .«effective_balance_increment» .0
+    ∷ s .«min_per_epoch_churn_limit_electra» .0
+    ∷ s .«max_per_epoch_activation_exit_churn_limit» .0
+    ∷ s .«churn_limit_quotient»
+    ∷ s .«shard_committee_period»
+    ∷ s .«min_validator_withdrawability_delay»
+    ∷ s .«max_seed_lookahead»
+    ∷ s .«hysteresis_quotient»
+    ∷ s .«hysteresis_downward_multiplier»
+    ∷ s .«hysteresis_upward_multiplier»
+    ∷ s .«max_pending_partials_per_withdrawals_sweep»
+    ∷ s .«max_withdrawals_per_payload»
+    ∷ s .«max_validators_per_withdrawals_sweep»
+    ∷ s .«validator_registry_limit»
+    ∷ s .«pending_balance_deposits_limit»
+    ∷ s .«pending_partial_withdrawals_limit»
+    ∷ s .«pending_consolidations_limit»
+    ∷ []
+
+-- xs with the settings s in its first nineteen numbers
+abbrev pub with-settings : List ℕ → Settings → List ℕ
+with-settings xs s = setting-numbers s ++ drop 19 xs
 
 -- thirteen numbers: the scalars, then the four counts
 abbrev pub scalars-in : List ℕ → Scalars
@@ -61,6 +88,13 @@ pub settings-read : (xs : List ℕ) → settings-in (rows 19 (λ k. getD xs k 0)
 unfolding rows
 settings-read xs = refl
 
+-- settings that were stored are read back
+pub settings-stored : (xs : List ℕ) (s : Settings) → settings-in (with-settings xs s) ≡ s
+settings-stored xs s = refl
+
+pub past-settings : (xs : List ℕ) (s : Settings) → drop 19 (with-settings xs s) ≡ drop 19 xs
+past-settings xs s = refl
+
 -- scalars that were stored are read back
 pub scalars-stored : (xs : List ℕ) (s : Scalars) → scalars-in (with-scalars xs s) ≡ s
 scalars-stored xs s = refl
@@ -77,3 +111,7 @@ first-numbers n xs h =
 pub stored-same : (xs : List ℕ) → 13 ≤ length xs → with-scalars xs (scalars-in xs) ≡ xs
 unfolding rows
 stored-same xs h = ap (λ l. l ++ drop 13 xs) (first-numbers 13 xs h) ∙ take-append-drop 13 xs
+
+pub settings-same : (xs : List ℕ) → 19 ≤ length xs → with-settings xs (settings-in xs) ≡ xs
+unfolding rows
+settings-same xs h = ap (λ l. l ++ drop 19 xs) (first-numbers 19 xs h) ∙ take-append-drop 19 xs

@@ -10,12 +10,13 @@ use primitives::ValidatorIndex;
 use primitives::WithdrawalIndex;
 use primitives::answers;
 ghost use mathlib.Core.Path.{_≡_};
-ghost use mathlib.Core.List.{[], _∷_};
+ghost use mathlib.Core.List.{[]};
 ghost use Prim.Native.Nat.{_≤_};
 ghost use lib.ListN.{length, getD};
 ghost use Rattle.tables.specs.Rows.{rows};
 ghost use Rattle.primitives.specs.Settings.{settings-of};
-ghost use Rattle.slices.specs.Numbers.{settings-in, scalars-in, scalar-numbers, with-scalars};
+ghost use Rattle.slices.specs.Numbers.{settings-in, setting-numbers, with-settings};
+ghost use Rattle.slices.specs.Numbers.{scalars-in, scalar-numbers, with-scalars};
 ghost use Rattle.slices.specs.Exported.{fit, unfit-answer};
 
 // How many numbers settings are.
@@ -74,6 +75,44 @@ pub fn settings_from(settings: &[u64]) -> Settings
     ensures { λ r. ⌜ r ≡ settings-in (now (settings .entry)) ⌝ }
 {
     settings_of(nineteen(settings))
+}
+
+fn setting_numbers(s: Settings) -> [u64; 19]
+    ensures { λ r. ⌜ r ≡ setting-numbers s ⌝ }
+{
+    [
+        s.min_activation_balance.0,
+        s.max_effective_balance_electra.0,
+        s.effective_balance_increment.0,
+        s.min_per_epoch_churn_limit_electra.0,
+        s.max_per_epoch_activation_exit_churn_limit.0,
+        s.churn_limit_quotient,
+        s.shard_committee_period,
+        s.min_validator_withdrawability_delay,
+        s.max_seed_lookahead,
+        s.hysteresis_quotient,
+        s.hysteresis_downward_multiplier,
+        s.hysteresis_upward_multiplier,
+        s.max_pending_partials_per_withdrawals_sweep as u64,
+        s.max_withdrawals_per_payload as u64,
+        s.max_validators_per_withdrawals_sweep as u64,
+        s.validator_registry_limit as u64,
+        s.pending_balance_deposits_limit as u64,
+        s.pending_partial_withdrawals_limit as u64,
+        s.pending_consolidations_limit as u64,
+    ]
+}
+
+pub fn store_settings(settings: &mut [u64], s: Settings)
+    requires { ⌜ 19 ≤ length (now settings) ⌝ }
+    ensures { λ r. ⌜ now (settings .exit) ≡ with-settings (now (settings .entry)) s ⌝ }
+{
+    let numbers = setting_numbers(s);
+    let mut j = 0;
+    while j < 19 {
+        settings[j] = numbers[j];
+        j += 1;
+    }
 }
 
 pub fn scalars_from(scalars: &[u64]) -> Scalars

@@ -14,3 +14,6 @@ pub mod payments; // solarbasil_process_withdrawals
 pub mod expected; // solarbasil_get_expected_withdrawals
 pub mod total; // solarbasil_total
 pub mod assignment; // solarbasil_epoch_assignment
+pub mod books_reader; // solarbasil_read_books
+pub mod books_writer; // solarbasil_write_books
+pub mod runner; // solarbasil_carry_out

@@ -1,27 +1,91 @@
 -- The facts that the stores are proved by.
 use mathlib.Core.Path.{_≡_, refl, sym, ap, ap₂, _∙_}
+use mathlib.Core.Bool.{true}
 use mathlib.Core.List.{List, [], _∷_, _++_}
-use Prim.Native.Nat.{ℕ, _+_, _*_, _≤_}
+use Prim.Native.Nat.{ℕ, _+_, _*_, _≤_, _<_}
 use native.Mathlib.Numerals.{add-one}
 use native.Mathlib.Omega.{arith}
 use lib.ListN.{length, drop}
-use lib.Seq.{drop-drop}
+use lib.Seq.{drop-drop, paste}
 use Rattle.tables.specs.Rows.{rows, rows-snoc}
 use Rattle.rules.specs.Types.{Validator}
 use Rattle.primitives.specs.declared.Scalars.{Scalars}
-use Rattle.records.specs.Layout.{validator-at}
+use Rattle.records.specs.Layout.{validator-at, identities-fit, validators-fit}
 use Rattle.records.specs.Books.{Tables, books-of}
 use Rattle.records.specs.Queues.{Pushed}
-use Rattle.records.specs.Stores.{ValidatorPushed}
+use Rattle.records.specs.Stores.{ValidatorPushed, put-words, validator-stored}
 use Rattle.acceptance.specs.Sound.{books-with}
+use Rattle.file_format.specs.Words.{words}
+use Rattle.file_format.specs.Fields.{field, flag}
 use Rattle.file_format.specs.Books.{validator, deposit, partial, consolidation}
-use Rattle.file_format.specs.Places.{deposits-place, partials-place, consolidations-place}
+use Rattle.file_format.specs.Places.{number-at, deposits-place, partials-place, consolidations-place}
+use Rattle.file_bytes.specs.Laws.{field-size}
+use Rattle.file_records.specs.Laws.{validator-there, validator-good}
 use Rattle.file_records.specs.Scalars.{scalars-at}
 use Rattle.file_records.specs.Lists.{listed-from}
 use Rattle.file_records.specs.Books.{validators-counted, deposits-counted, partials-counted, consolidations-counted}
 use Rattle.file_records.specs.Books.{file-validators, file-deposits, file-partials, file-consolidations, file-books}
 use Rattle.table_stores.specs.Stored.{Stored, ValidatorsStored, DepositsStored, PartialsStored}
 use Rattle.table_stores.specs.Stored.{ConsolidationsStored, BooksStored}
+
+-- ---- a validator at word k
+
+-- its numbers, stored one after another
+pub words-stored : (ws : List ℕ) (k : ℕ) (vs : List ℕ) (n : ℕ) {s b₁ b₂ b₃ b₄ b₅ b₆ : ℕ}
+    → s ≡ flag .value (drop (k + 27) ws) → b₁ ≡ number-at ws (k + 28) → b₂ ≡ number-at ws (k + 31)
+    → b₃ ≡ number-at ws (k + 34) → b₄ ≡ number-at ws (k + 37) → b₅ ≡ number-at ws (k + 40)
+    → b₆ ≡ number-at ws (k + 43)
+    → put-words vs n (record {
+      public-key = field 48 .value (drop k ws);
+      withdrawal-credentials = field 32 .value (drop (k + 16) ws);
+      slashed = s;
+      effective-balance = b₁;
+      activation-eligibility-epoch = b₂;
+      activation-epoch = b₃;
+      exit-epoch = b₄;
+      withdrawable-epoch = b₅;
+      balance = b₆;
+    })
+    ≡ put-words vs n (validator .value (drop k ws))
+words-stored ws k vs n e g₁ g₂ g₃ g₄ g₅ g₆ =
+    ap (put-words vs n)
+    ((λ j. record {
+      public-key = field 48 .value (drop k ws);
+      withdrawal-credentials = field 32 .value (drop (k + 16) ws);
+      slashed = e j;
+      effective-balance = g₁ j;
+      activation-eligibility-epoch = g₂ j;
+      activation-epoch = g₃ j;
+      exit-epoch = g₄ j;
+      withdrawable-epoch = g₅ j;
+      balance = g₆ j;
+    })
+    ∙ sym (validator-there ws k))
+
+module _ (bs : List ℕ) (k : ℕ) (e : validator .ok (drop k (words bs)) ≡ true) (ids vs : List ℕ) (n : ℕ) where
+  abbrev v : Validator
+  v = validator .value (drop k (words bs))
+
+  key-there : v .public-key ≡ field 48 .value (drop k (words bs))
+  key-there = ap (λ (x : Validator). x .public-key) (validator-there (words bs) k)
+
+  credentials-there : v .withdrawal-credentials ≡ field 32 .value (drop (k + 16) (words bs))
+  credentials-there = ap (λ (x : Validator). x .withdrawal-credentials) (validator-there (words bs) k)
+
+  -- its bytes, and then its numbers
+  pub validator-put : n < identities-fit ids → n < validators-fit vs → {with-key new-ids new-vs : List ℕ}
+      → with-key ≡ paste ids (80 * n) (field 48 .value (drop k (words bs))) 48
+      → new-ids ≡ paste with-key (80 * n + 48) (field 32 .value (drop (k + 16) (words bs))) 32
+      → new-vs ≡ put-words vs n v
+      → ValidatorPushed n v ids vs new-ids new-vs
+  validator-put f g {with-key} p q r =
+      let there = validator-good (words bs) k e in
+      validator-stored ids vs n v f g
+      (ap length key-there ∙ field-size bs k 48 (there .key))
+      (ap length credentials-there ∙ field-size bs (k + 16) 32 (there .credentials))
+      (p ∙ ap (λ x. paste ids (80 * n) x 48) (sym key-there))
+      (q ∙ ap (λ x. paste with-key (80 * n + 48) x 32) (sym credentials-there))
+      r
 
 -- ---- a loop that stores one record after another
 
@@ -73,14 +137,15 @@ module _ (ws : List ℕ) where
     validators-past = refl;
   }
 
-  pub validators-more : {i : ℕ} {x : Validator} {ids vs mid-ids mid-vs new-ids new-vs : List ℕ}
-      → ValidatorsStored ws i ids vs mid-ids mid-vs → ValidatorPushed i x mid-ids mid-vs new-ids new-vs
-      → length new-ids ≡ length mid-ids → length new-vs ≡ length mid-vs → x ≡ validator .value (drop (86 + i * 46) ws)
+  pub validators-more : {i : ℕ} {ids vs mid-ids mid-vs new-ids new-vs : List ℕ}
+      → ValidatorsStored ws i ids vs mid-ids mid-vs
+      → ValidatorPushed i (validator .value (drop (86 + i * 46) ws)) mid-ids mid-vs new-ids new-vs
+      → length new-ids ≡ length mid-ids → length new-vs ≡ length mid-vs
       → ValidatorsStored ws (i + 1) ids vs new-ids new-vs
-  validators-more {i} {x} {ids} {vs} {mid-ids} {mid-vs} s p y z e = record {
+  validators-more {i} {ids} {vs} {mid-ids} {mid-vs} s p y z = record {
     identities-size = y ∙ s .identities-size;
     validators-size = z ∙ s .validators-size;
-    validators = p .validators ∙ one-more i file-validator (s .validators) e;
+    validators = p .validators ∙ one-more i file-validator (s .validators) refl;
     identities-past = p .identities-past ∙ past-more 80 i mid-ids ids (s .identities-past);
     validators-past = p .validators-past ∙ past-more 7 i mid-vs vs (s .validators-past);
   }

@@ -9,7 +9,6 @@ use Rattle.records.specs.Layout.{validator-at, deposit-at, partial-at, consolid
 use Rattle.records.specs.Layout.{identities-fit, validators-fit, deposits-fit, partials-fit, consolidations-fit}
 use Rattle.records.specs.Layout.{identities-past, validators-past}
 use Rattle.records.specs.Books.{Tables, books-of, Beyond}
-use Rattle.file_format.specs.Fields.{Format}
 use Rattle.file_format.specs.Books.{validator, deposit, partial, consolidation}
 use Rattle.file_format.specs.Places.{books-at}
 use Rattle.file_records.specs.Lists.{records-from}

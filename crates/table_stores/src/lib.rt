@@ -3,19 +3,23 @@
 use books_file::consolidations_place;
 use books_file::deposits_place;
 use books_file::partials_place;
+use file_bytes::put_field;
 use file_records::consolidation_at;
 use file_records::deposit_at;
 use file_records::partial_at;
-use file_records::validator_at;
+use file_words::flag_at;
+use file_words::number_at;
 use primitives::Scalars;
 use records::queues::push_consolidation;
 use records::queues::push_deposit;
 use records::queues::push_partial;
-use records::registry::push_validator;
 ghost use mathlib.Core.Path.{_≡_};
-ghost use Prim.Native.Nat.{_≤_};
+ghost use mathlib.Core.Bool.{true};
+ghost use Prim.Native.Nat.{_≤_, _<_, _^_};
+ghost use lib.ListN.{drop};
 ghost use Rattle.records.specs.Layout.{identities-fit, validators-fit, deposits-fit, partials-fit, consolidations-fit};
 ghost use Rattle.records.specs.Books.{tables};
+ghost use Rattle.records.specs.Stores.{put-words, ValidatorPushed};
 ghost use Rattle.file_format.specs.Words.{words};
 ghost use Rattle.file_format.specs.Books.{validator, deposit, partial, consolidation};
 ghost use Rattle.file_format.specs.PlacesLaws.{Good};
@@ -23,6 +27,50 @@ ghost use Rattle.file_records.specs.Scalars.{scalars-at};
 ghost use Rattle.file_records.specs.Lists.{Readable};
 ghost use Rattle.table_stores.specs.Stored.{ValidatorsStored, DepositsStored, PartialsStored};
 ghost use Rattle.table_stores.specs.Stored.{ConsolidationsStored, Fits, BooksStored};
+
+// ---- a validator at word k of the file, straight into row n of the tables
+
+fn store_words(file: &[u8], k: usize, validators: &mut [u64], n: usize)
+    requires { ⌜ k ≤ 2 ^ 39 ⌝ }
+    requires { ⌜ validator .ok (drop k (words (now file))) ≡ true ⌝ }
+    requires { ⌜ n < validators-fit (now validators) ⌝ }
+    ensures { λ _. ⌜
+        now (validators .exit)
+        ≡ put-words (now (validators .entry)) n (validator .value (drop k (words (now (file .entry)))))
+        ⌝ }
+{
+    let slashed = flag_at(file, k + 27) as u64;
+    let effective_balance = number_at(file, k + 28);
+    let activation_eligibility_epoch = number_at(file, k + 31);
+    let activation_epoch = number_at(file, k + 34);
+    let exit_epoch = number_at(file, k + 37);
+    let withdrawable_epoch = number_at(file, k + 40);
+    let balance = number_at(file, k + 43);
+    let at = 7 * n;
+    validators[at] = slashed;
+    validators[at + 1] = effective_balance;
+    validators[at + 2] = activation_eligibility_epoch;
+    validators[at + 3] = activation_epoch;
+    validators[at + 4] = exit_epoch;
+    validators[at + 5] = withdrawable_epoch;
+    validators[at + 6] = balance;
+}
+
+fn store_validator(file: &[u8], k: usize, identities: &mut [u8], validators: &mut [u64], n: usize)
+    requires { ⌜ k ≤ 2 ^ 39 ⌝ }
+    requires { ⌜ validator .ok (drop k (words (now file))) ≡ true ⌝ }
+    requires { ⌜ (n < identities-fit (now identities)) × (n < validators-fit (now validators)) ⌝ }
+    ensures { λ _. ⌜
+        ValidatorPushed n (validator .value (drop k (words (now (file .entry)))))
+        (now (identities .entry)) (now (validators .entry)) (now (identities .exit)) (now (validators .exit))
+        ⌝ }
+{
+    put_field(file, k, 48, identities, 80 * n);
+    put_field(file, k + 16, 32, identities, 80 * n + 48);
+    store_words(file, k, validators, n);
+}
+
+// ---- lists
 
 // n validators from word 86 on, into rows 0 to n - 1.
 fn store_validators(file: &[u8], n: usize, identities: &mut [u8], validators: &mut [u64])
@@ -35,7 +83,7 @@ fn store_validators(file: &[u8], n: usize, identities: &mut [u8], validators: &m
 {
     let mut i: usize = 0;
     while i < n {
-        push_validator(identities, validators, i, validator_at(file, 86 + i * 46));
+        store_validator(file, 86 + i * 46, identities, validators, i);
         i += 1;
     }
 }

@@ -1,6 +1,6 @@
 -- The scope text's example as bytes, computed by the checker.
 use mathlib.Core.Path.{_≡_, refl}
-use mathlib.Core.List.{List, [], _∷_, _++_}
+use mathlib.Core.List.{[], _∷_, _++_}
 use Rattle.table_text.specs.Lines.{line}
 use Rattle.table_text.specs.Text.{ascii, decimal, field, text-line, text-lines, table-text, refused-text}
 

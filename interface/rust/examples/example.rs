@@ -1,43 +1,19 @@
-//! The worked example of the scope text: one turn, and an exit asked for twice.
-use solarbasil::{Books, Limits, PendingBalanceDeposit, Refused, Scalars, Settings, Validator, FAR};
+//! The worked example of the scope text: opens a books file, carries out a calls file, prints each call's answer, and
+//! writes the closing books.
+//!
+//!     example OPENING CALLS CLOSING
+use solarbasil::{Books, Line};
+use std::{env, error::Error, fs};
 
-const G: u64 = 1_000_000_000;
-
-/// Epoch 1000; one validator with prefix 01, active since epoch 0, with a balance of 40 G; one deposit of 1 G for it.
-fn opening() -> Books {
-    let limits = Limits { registry: 256, deposits: 256, partials: 256, consolidations: 256 };
-    let scalars = Scalars { epoch: 1000, ..Scalars::default() };
-    let mut books = Books::new(&Settings::mainnet(limits), &scalars);
-    let mut withdrawal_credentials = [0; 32];
-    withdrawal_credentials[0] = 1;
-    let validator = Validator {
-        public_key: [0; 48],
-        withdrawal_credentials,
-        slashed: false,
-        effective_balance: 32 * G,
-        activation_eligibility_epoch: 0,
-        activation_epoch: 0,
-        exit_epoch: FAR,
-        withdrawable_epoch: FAR,
-        balance: 40 * G,
-    };
-    books.push_validator(&validator).unwrap();
-    books.push_deposit(&PendingBalanceDeposit { index: 0, amount: G }).unwrap();
-    books
-}
-
-fn print(position: usize, code: u8, answer: Result<(), Refused>, books: &Books) {
-    let number = answer.map_or_else(|refused| refused.0, |()| 0);
-    println!("{position:04} {code:02} {number:02} {:020}", books.total().unwrap());
-}
-
-fn main() {
-    let mut books = opening();
+fn main() -> Result<(), Box<dyn Error>> {
+    let names: Vec<String> = env::args().skip(1).collect();
+    let [opening, calls, closing] = &names[..] else { return Err("example OPENING CALLS CLOSING".into()) };
+    let mut books = Books::open(&fs::read(opening)?)?;
+    let lines = books.carry_out(&fs::read(calls)?)?;
     println!("call code answer total");
-    let answer = books.turn();
-    print(1, 7, answer, &books);
-    let answer = books.process_voluntary_exit(0, 1000, true);
-    print(2, 4, answer, &books);
-    let answer = books.process_voluntary_exit(0, 1000, true);
-    print(3, 4, answer, &books);
+    for (position, Line { code, answer, total }) in lines.iter().enumerate() {
+        println!("{:04} {code:02} {answer:02} {total:020}", position + 1);
+    }
+    fs::write(closing, books.write()?)?;
+    Ok(())
 }

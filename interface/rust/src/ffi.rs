@@ -257,6 +257,67 @@ extern "C" {
         partial_count: *mut u64,
     ) -> u8;
 
+    pub fn solarbasil_read_books(
+        settings: *mut u64,
+        settings_len: usize,
+        scalars: *mut u64,
+        scalars_len: usize,
+        identities: *mut u8,
+        identities_len: usize,
+        validators: *mut u64,
+        validators_len: usize,
+        deposits: *mut u64,
+        deposits_len: usize,
+        partials: *mut u64,
+        partials_len: usize,
+        consolidations: *mut u64,
+        consolidations_len: usize,
+        file: *const u8,
+        file_len: usize,
+    ) -> u8;
+
+    pub fn solarbasil_write_books(
+        settings: *const u64,
+        settings_len: usize,
+        scalars: *const u64,
+        scalars_len: usize,
+        identities: *const u8,
+        identities_len: usize,
+        validators: *const u64,
+        validators_len: usize,
+        deposits: *const u64,
+        deposits_len: usize,
+        partials: *const u64,
+        partials_len: usize,
+        consolidations: *const u64,
+        consolidations_len: usize,
+        out: *mut u8,
+        out_len: usize,
+        written: *mut u64,
+    ) -> u8;
+
+    pub fn solarbasil_carry_out(
+        settings: *const u64,
+        settings_len: usize,
+        scalars: *mut u64,
+        scalars_len: usize,
+        identities: *mut u8,
+        identities_len: usize,
+        validators: *mut u64,
+        validators_len: usize,
+        deposits: *mut u64,
+        deposits_len: usize,
+        partials: *mut u64,
+        partials_len: usize,
+        consolidations: *mut u64,
+        consolidations_len: usize,
+        file: *const u8,
+        file_len: usize,
+        results: *mut u64,
+        results_len: usize,
+        count: *mut u64,
+    ) -> u8;
+
     pub fn solarbasil_epoch_assignment(
         left: u64,
         earliest: u64,

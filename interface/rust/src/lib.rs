@@ -13,6 +13,9 @@ pub const FAR: u64 = u64::MAX;
 /// The most records that a limit can ask room for.
 const MOST: u64 = 65_536;
 
+/// The most calls that a calls file holds.
+const CALLS: usize = 9_999;
+
 /// A call that was refused, with the number of its cause. It left the books as they were.
 #[derive(Clone, Copy, Debug, PartialEq, Eq)]
 pub struct Refused(pub u8);
@@ -40,6 +43,8 @@ impl fmt::Display for Refused {
             41 => "result's sums over 2^62",
             42 => "result's epoch or withdrawal index over 2^62",
             50 => "epoch assignment with churn 0",
+            60 => "no books file, or no calls file",
+            61 => "buffer shorter than what is to be written",
             _ => "unknown cause",
         };
         write!(f, "refused {:02}: {cause}", self.0)
@@ -195,6 +200,15 @@ pub struct ExpectedWithdrawals {
     pub partials: usize,
 }
 
+/// A call of a calls file: its code (1 reward, 2 penalty, 3 receipt, 4 exit, 5 request, 6 consolidation, 7 turn,
+/// 8 withdrawals), its answer, and balances plus waiting deposits after it.
+#[derive(Clone, Copy, Debug, PartialEq, Eq)]
+pub struct Line {
+    pub code: u64,
+    pub answer: u64,
+    pub total: u64,
+}
+
 /// An epoch, and what is left of its churn.
 #[derive(Clone, Copy, Debug, PartialEq, Eq)]
 pub struct Assignment {
@@ -309,7 +323,96 @@ impl Books {
         }
     }
 
+    // ---- the two files
+
+    /// The books of a books file.
+    pub fn open(file: &[u8]) -> Result<Books, Refused> {
+        let most = MOST as usize;
+        let mut b = Books {
+            settings: [0; 19],
+            scalars: [0; 13],
+            identities: vec![0; 80 * most],
+            validators: vec![0; 7 * most],
+            deposits: vec![0; 2 * most],
+            partials: vec![0; 3 * most],
+            consolidations: vec![0; 2 * most],
+        };
+        b.read(file)?;
+        let [registry, deposits, partials, consolidations] = b.limits();
+        cut(&mut b.identities, 80 * registry);
+        cut(&mut b.validators, 7 * registry);
+        cut(&mut b.deposits, 2 * deposits);
+        cut(&mut b.partials, 3 * partials);
+        cut(&mut b.consolidations, 2 * consolidations);
+        Ok(b)
+    }
+
+    /// The books of a books file, in the buffers of these; a file with larger limits is refused, 3.
+    pub fn read(&mut self, file: &[u8]) -> Result<(), Refused> {
+        // Safety: as for `call!`; here the settings may change too.
+        answered(unsafe {
+            ffi::solarbasil_read_books(
+                self.settings.as_mut_ptr(),
+                self.settings.len(),
+                self.scalars.as_mut_ptr(),
+                self.scalars.len(),
+                self.identities.as_mut_ptr(),
+                self.identities.len(),
+                self.validators.as_mut_ptr(),
+                self.validators.len(),
+                self.deposits.as_mut_ptr(),
+                self.deposits.len(),
+                self.partials.as_mut_ptr(),
+                self.partials.len(),
+                self.consolidations.as_mut_ptr(),
+                self.consolidations.len(),
+                file.as_ptr(),
+                file.len(),
+            )
+        })
+    }
+
+    /// The books as a file.
+    pub fn write(&self) -> Result<Vec<u8>, Refused> {
+        let counts = [VALIDATORS, DEPOSITS, PARTIALS, CONSOLIDATIONS].map(|table| self.count(table));
+        let words: usize = counts.iter().zip([46, 6, 9, 6]).map(|(count, width)| count * width).sum();
+        let mut file = vec![0; 4 * (90 + words)];
+        let written = self.write_to(&mut file)?;
+        file.truncate(written);
+        Ok(file)
+    }
+
+    /// The books as a file, at the start of a buffer; how many bytes it has.
+    pub fn write_to(&self, out: &mut [u8]) -> Result<usize, Refused> {
+        let mut written = 0;
+        ask!(solarbasil_write_books, self, out.as_mut_ptr(), out.len(), &mut written)?;
+        Ok(written as usize)
+    }
+
+    /// Carries out the calls of a calls file one after another. A call that is refused has its answer in its line, and
+    /// the next one goes on.
+    pub fn carry_out(&mut self, file: &[u8]) -> Result<Vec<Line>, Refused> {
+        let mut results = vec![0; 3 * CALLS];
+        let mut count = 0;
+        call!(
+            solarbasil_carry_out,
+            self,
+            file.as_ptr(),
+            file.len(),
+            results.as_mut_ptr(),
+            results.len(),
+            &mut count,
+        )?;
+        let line = |w: &[u64]| Line { code: w[0], answer: w[1], total: w[2] };
+        Ok(results.chunks_exact(3).take(count as usize).map(line).collect())
+    }
+
     // ---- the records
+
+    /// How many records the settings ask room for: registry, deposits, partials, consolidations.
+    fn limits(&self) -> [usize; 4] {
+        [15, 16, 17, 18].map(|place| self.settings[place].min(MOST) as usize)
+    }
 
     pub fn scalars(&self) -> Scalars {
         let s = &self.scalars;
@@ -525,6 +628,11 @@ impl Books {
         let list = all.take(count as usize).map(withdrawal).collect();
         Ok(ExpectedWithdrawals { list, partials: partials as usize })
     }
+}
+
+fn cut<T>(buffer: &mut Vec<T>, length: usize) {
+    buffer.truncate(length);
+    buffer.shrink_to_fit();
 }
 
 /// Another record behind those that `count` counts.

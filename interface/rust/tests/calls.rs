@@ -1,6 +1,6 @@
 //! Each call once through the wrapper, with what it leaves and a refusal. The library's proofs say the rest.
 use solarbasil::{
-    epoch_assignment, Assignment, Books, Full, Limits, PendingBalanceDeposit, PendingConsolidation,
+    epoch_assignment, Assignment, Books, Full, Limits, Line, PendingBalanceDeposit, PendingConsolidation,
     PendingPartialWithdrawal, Refused, Scalars, Settings, Validator, FAR,
 };
 
@@ -138,4 +138,47 @@ fn assignments() {
     assert_eq!(of(32 * G + 1), Ok(Assignment { left: 127_999_999_999, epoch: 1006 }));
     assert_eq!(epoch_assignment(0, 0, 0, 0, 0), Err(Refused(50)));
     assert_eq!(epoch_assignment(0, FAR, 0, 1, 0), Err(Refused(42)));
+}
+
+#[test]
+fn books_files() {
+    let mut b = two();
+    b.push_deposit(&PendingBalanceDeposit { index: 1, amount: G }).unwrap();
+    b.push_partial(&PendingPartialWithdrawal { index: 1, amount: 5, withdrawable_epoch: 7 }).unwrap();
+    b.push_consolidation(&PendingConsolidation { source_index: 0, target_index: 1 }).unwrap();
+    let mut file = b.write().unwrap();
+    assert_eq!(file.len(), 4 * (90 + 2 * 46 + 6 + 9 + 6));
+    assert_eq!(Books::open(&file), Ok(b.clone()));
+    // A buffer that is one byte short stays as it is; what stands past the file stays too.
+    let mut short = vec![7; file.len() - 1];
+    assert_eq!(b.write_to(&mut short), Err(Refused(61)));
+    assert!(short.iter().all(|&byte| byte == 7));
+    let mut long = vec![7; file.len() + 1];
+    assert_eq!(b.write_to(&mut long), Ok(file.len()));
+    assert_eq!((&long[..file.len()], long[file.len()]), (&file[..], 7));
+    // Limits of 4 have no room in books of 3, which stay as they are.
+    let mut other = books(3);
+    assert_eq!(other.read(&file), Err(Refused(3)));
+    assert_eq!(other, books(3));
+    file[4] ^= 1;
+    assert_eq!(other.read(&file), Err(Refused(60)));
+    assert_eq!(Books::open(&file), Err(Refused(60)));
+    assert_eq!(books(4).write(), Err(Refused(2)));
+    assert_eq!(books(0).write(), Err(Refused(1)));
+}
+
+#[test]
+fn calls_files() {
+    let calls = include_bytes!("../../../example/calls.w");
+    let mut b = Books::open(include_bytes!("../../../example/opening.w")).unwrap();
+    let before = b.clone();
+    assert_eq!(b.carry_out(&calls[4..]), Err(Refused(60)));
+    assert_eq!(b, before);
+    let line = |code, answer| Line { code, answer, total: 41 * G };
+    assert_eq!(b.carry_out(calls), Ok(vec![line(7, 0), line(4, 0), line(4, 12)]));
+    let mut one_by_one = before;
+    assert_eq!(one_by_one.turn(), Ok(()));
+    assert_eq!(one_by_one.process_voluntary_exit(0, 1000, true), Ok(()));
+    assert_eq!(one_by_one.process_voluntary_exit(0, 1000, true), Err(Refused(12)));
+    assert_eq!(b, one_by_one);
 }

@@ -1,4 +1,4 @@
-use mathlib.Core.Path.{_≡_, sym, _∙_}
+use mathlib.Core.Path.{sym, _∙_}
 use borrow.Author.Needs.{needs}
 use Rattle.file_calls.specs.Laws.{code-last}
 use Rattle.file_calls.proofs.carry_out_call.Statement.{statement}

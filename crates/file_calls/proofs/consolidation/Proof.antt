@@ -4,7 +4,7 @@ use Rattle.file_calls.proofs.consolidation.Statement.{statement}
 use Rattle.file_calls.proofs.consolidation.Tie as tie
 use Rattle.file_calls.proofs.consolidation.Reads as reads
 use Rattle.file_calls.proofs.consolidation.Lts as lts
-use Rattle.block_processing.proofs.consolidations.process_consolidation.Reads as process-consolidation-reads
+use Rattle.consolidation_operations.proofs.process_consolidation.Reads as process-consolidation-reads
 use Rattle.calls_reader.proofs.consolidation_at.Reads as consolidation-at-reads
 
 -- src/lib.rt:247:9

@@ -4,7 +4,7 @@ use Rattle.file_calls.proofs.deposit_receipt.Statement.{statement}
 use Rattle.file_calls.proofs.deposit_receipt.Tie as tie
 use Rattle.file_calls.proofs.deposit_receipt.Reads as reads
 use Rattle.file_calls.proofs.deposit_receipt.Lts as lts
-use Rattle.block_processing.proofs.receipts.process_deposit_receipt.Reads as process-deposit-receipt-reads
+use Rattle.receipt_operations.proofs.process_deposit_receipt.Reads as process-deposit-receipt-reads
 use Rattle.calls_reader.proofs.receipt_at.Reads as receipt-at-reads
 
 -- src/lib.rt:118:9

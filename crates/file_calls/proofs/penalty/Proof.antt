@@ -6,7 +6,7 @@ use Rattle.file_calls.proofs.penalty.Tie as tie
 use Rattle.file_calls.proofs.penalty.Reads as reads
 use Rattle.file_calls.proofs.penalty.Lts as lts
 use Rattle.calls_reader.proofs.amount_at.Reads as amount-at-reads
-use Rattle.electra.proofs.penalty.penalty_accepted.Reads as penalty-accepted-reads
+use Rattle.rewards.proofs.penalty.penalty_accepted.Reads as penalty-accepted-reads
 
 -- src/lib.rt:78:9
 amount-at-requires : tie.Need-amount-at-requires

@@ -6,7 +6,7 @@ use Rattle.file_calls.proofs.reward.Tie as tie
 use Rattle.file_calls.proofs.reward.Reads as reads
 use Rattle.file_calls.proofs.reward.Lts as lts
 use Rattle.calls_reader.proofs.amount_at.Reads as amount-at-reads
-use Rattle.electra.proofs.reward.reward_accepted.Reads as reward-accepted-reads
+use Rattle.rewards.proofs.reward.reward_accepted.Reads as reward-accepted-reads
 
 -- src/lib.rt:38:9
 amount-at-requires : tie.Need-amount-at-requires

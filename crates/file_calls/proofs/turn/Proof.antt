@@ -4,7 +4,7 @@ use Rattle.file_calls.proofs.turn.Statement.{statement}
 use Rattle.file_calls.proofs.turn.Tie as tie
 use Rattle.file_calls.proofs.turn.Reads as reads
 use Rattle.file_calls.proofs.turn.Lts as lts
-use Rattle.electra.proofs.turns.turn_accepted.Reads as turn-accepted-reads
+use Rattle.epoch_turns.proofs.turn_accepted.Reads as turn-accepted-reads
 
 -- src/lib.rt:289:5
 turn-accepted-requires : tie.Need-turn-accepted-requires

@@ -4,7 +4,7 @@ use Rattle.file_calls.proofs.voluntary_exit.Statement.{statement}
 use Rattle.file_calls.proofs.voluntary_exit.Tie as tie
 use Rattle.file_calls.proofs.voluntary_exit.Reads as reads
 use Rattle.file_calls.proofs.voluntary_exit.Lts as lts
-use Rattle.block_processing.proofs.exits.process_voluntary_exit.Reads as process-voluntary-exit-reads
+use Rattle.exit_operations.proofs.process_voluntary_exit.Reads as process-voluntary-exit-reads
 use Rattle.calls_reader.proofs.exit_at.Reads as exit-at-reads
 
 -- src/lib.rt:163:9

@@ -4,7 +4,7 @@ use Rattle.file_calls.proofs.withdrawal_request.Statement.{statement}
 use Rattle.file_calls.proofs.withdrawal_request.Tie as tie
 use Rattle.file_calls.proofs.withdrawal_request.Reads as reads
 use Rattle.file_calls.proofs.withdrawal_request.Lts as lts
-use Rattle.block_processing.proofs.requests.process_execution_layer_withdrawal_request.Reads as
+use Rattle.request_operations.proofs.process_execution_layer_withdrawal_request.Reads as
     process-execution-layer-withdrawal-request-reads
 use Rattle.calls_reader.proofs.request_at.Reads as request-at-reads
 

@@ -1,37 +1,33 @@
+-- `file_words::number_at` meets its contract.
+use Prim.Native.Nat.{_+_, _/_, _≤_}
+use native.Mathlib.Omega.{arith}
+use lib.ListN.{length}
 use borrow.Author.Needs.{needs}
-use Rattle.file_words.specs.Laws.{top-small, number-made}
+use Rattle.file_words.specs.Laws.{number-inside, top-small, number-made}
 use Rattle.file_words.proofs.number_at.Statement.{statement}
 use Rattle.file_words.proofs.number_at.Tie as tie
-use Rattle.file_words.proofs.number_at.Reads as reads
-use Rattle.file_words.proofs.number_at.Lts as lts
-use Rattle.file_words.proofs.joined.Reads as joined-reads
-use Rattle.file_words.proofs.word_at.Reads as word-at-reads
 
--- src/lib.rt:127:9
-word-at-requires : tie.Need-word-at-requires
-word-at-requires c κs = search needs
+inside : (c : tie.Start) → c .args .k + 3 ≤ length (c .args .file .now) / 4
+inside c = number-inside (c .args .file .now) (c .args .k) (c .pre .1)
 
--- src/lib.rt:128:32
-add-word-at : tie.Need-add-word-at
-add-word-at c = search needs
+word-within-requires : tie.Need-word-within-requires
+word-within-requires c κs = omega (arith, inside (c .before))
 
--- src/lib.rt:128:9
-word-at-requires-2 : tie.Need-word-at-requires-2
-word-at-requires-2 c κs = search needs
+add-word-within : tie.Need-add-word-within
+add-word-within c = search needs
 
--- src/lib.rt:129:29
-add-word-at-2 : tie.Need-add-word-at-2
-add-word-at-2 c = search needs
+word-within-requires-2 : tie.Need-word-within-requires-2
+word-within-requires-2 c κs = omega (arith, inside (c .before .before))
 
--- src/lib.rt:129:9
-word-at-requires-3 : tie.Need-word-at-requires-3
-word-at-requires-3 c κs = search needs
+add-word-within-2 : tie.Need-add-word-within-2
+add-word-within-2 c = search needs
 
--- src/lib.rt:130:5
+word-within-requires-3 : tie.Need-word-within-requires-3
+word-within-requires-3 c κs = omega (arith, inside (c .before .before .before))
+
 joined-requires : tie.Need-joined-requires
 joined-requires c κs = search (top-small, needs)
 
--- src/lib.rt:122:1
 returns : tie.Need-returns
 returns c = search (number-made, needs)
 
@@ -39,10 +35,10 @@ pub number-at-spec : {M : Type 1} → statement M
 number-at-spec =
     tie.close
     (tie.spec
-    word-at-requires
-    add-word-at
-    word-at-requires-2
-    add-word-at-2
-    word-at-requires-3
+    word-within-requires
+    add-word-within
+    word-within-requires-2
+    add-word-within-2
+    word-within-requires-3
     joined-requires
     returns)

@@ -1,54 +1,17 @@
 -- `file_words::word_at` meets its contract.
 use borrow.Author.Needs.{needs}
-use Rattle.file_words.specs.Laws.{word-there, word-none}
+use Rattle.file_words.specs.Laws.{word-none}
 use Rattle.file_words.proofs.word_at.Statement.{statement}
 use Rattle.file_words.proofs.word_at.Tie as tie
 
-mul-at : tie.Need-mul-at
-mul-at c = search needs
-
-shared-slice-read-word-of : tie.Need-shared-slice-read-word-of
-shared-slice-read-word-of c = search needs
-
-add-word-of : tie.Need-add-word-of
-add-word-of c = search needs
-
-shared-slice-read-word-of-2 : tie.Need-shared-slice-read-word-of-2
-shared-slice-read-word-of-2 c = search needs
-
-add-word-of-2 : tie.Need-add-word-of-2
-add-word-of-2 c = search needs
-
-shared-slice-read-word-of-3 : tie.Need-shared-slice-read-word-of-3
-shared-slice-read-word-of-3 c = search needs
-
-add-word-of-3 : tie.Need-add-word-of-3
-add-word-of-3 c = search needs
-
-shared-slice-read-word-of-4 : tie.Need-shared-slice-read-word-of-4
-shared-slice-read-word-of-4 c = search needs
-
-word-of-requires : tie.Need-word-of-requires
-word-of-requires c κs = search needs
+word-within-requires : tie.Need-word-within-requires
+word-within-requires c κs = search needs
 
 returns : tie.Need-returns
-returns c = search (word-there, needs)
+returns c = search needs
 
 returns-2 : tie.Need-returns-2
 returns-2 c = search (word-none, needs)
 
 pub word-at-spec : {M : Type 1} → statement M
-word-at-spec =
-    tie.close
-    (tie.spec
-    mul-at
-    shared-slice-read-word-of
-    add-word-of
-    shared-slice-read-word-of-2
-    add-word-of-2
-    shared-slice-read-word-of-3
-    add-word-of-3
-    shared-slice-read-word-of-4
-    word-of-requires
-    returns
-    returns-2)
+word-at-spec = tie.close (tie.spec word-within-requires returns returns-2)

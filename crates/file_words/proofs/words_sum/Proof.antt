@@ -17,8 +17,8 @@ abbrev μ-loop : tie.MeasureT-loop
 loop-holds : tie.Need-loop-holds Inv-loop μ-loop
 loop-holds c = (search needs, refl)
 
-word-at-requires : tie.Need-word-at-requires Inv-loop μ-loop
-word-at-requires c κs = search needs
+word-within-requires : tie.Need-word-within-requires Inv-loop μ-loop
+word-within-requires c κs = search needs
 
 wrapping-add-u32-requires : tie.Need-wrapping-add-u32-requires Inv-loop μ-loop
 wrapping-add-u32-requires c κs = search needs
@@ -45,7 +45,7 @@ words-sum-spec =
     Inv-loop
     μ-loop
     loop-holds
-    word-at-requires
+    word-within-requires
     wrapping-add-u32-requires
     add-i
     loop-less

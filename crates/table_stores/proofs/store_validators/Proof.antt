@@ -16,22 +16,24 @@ abbrev μ-loop : tie.MeasureT-loop
 loop-holds : tie.Need-loop-holds Inv-loop μ-loop
 loop-holds c = (omega arith, validators-none _)
 
-mul-validator-at : tie.Need-mul-validator-at Inv-loop μ-loop
-mul-validator-at c = omega (arith, c .before .before .before .before .before .before .before .pre .0 .small)
+mul-store-validator : tie.Need-mul-store-validator Inv-loop μ-loop
+mul-store-validator c = omega (arith, c .before .before .before .before .before .pre .0 .small)
 
-add-validator-at : tie.Need-add-validator-at Inv-loop μ-loop
-add-validator-at c = omega (arith, c .before .before .before .before .before .before .before .pre .0 .small)
+add-store-validator : tie.Need-add-store-validator Inv-loop μ-loop
+add-store-validator c = omega (arith, c .before .before .before .before .before .pre .0 .small)
 
-validator-at-requires : tie.Need-validator-at-requires Inv-loop μ-loop
-validator-at-requires c κs =
-    let r = c .before .before .before .before .before .before .before .pre .0 in
-    (omega (arith, r .small), r .good (c .before .before .before .loop .i) (omega arith))
-
-push-validator-requires : tie.Need-push-validator-requires Inv-loop μ-loop
-push-validator-requires c κs =
-    let room = c .before .before .before .before .before .before .before .before .pre .1 in
-    let l = c .before .before .before .before .loop in
-    (omega (arith, room .0, l .inv .1 .identities-size), omega (arith, room .1, l .inv .1 .validators-size))
+store-validator-requires : tie.Need-store-validator-requires Inv-loop μ-loop
+store-validator-requires c κs =
+    let start = c .before .before .before .before .before .before .before in
+    let r = start .pre .0 in
+    let room = start .pre .1 in
+    let l = c .before .before .before .loop in (
+      omega (arith, r .small),
+      (
+        r .good (l .i) (omega arith),
+        (omega (arith, room .0, l .inv .1 .identities-size), omega (arith, room .1, l .inv .1 .validators-size)),
+      ),
+    )
 
 add-i : tie.Need-add-i Inv-loop μ-loop
 add-i c = omega arith
@@ -41,12 +43,9 @@ loop-less c = omega arith
 
 loop-again : tie.Need-loop-again Inv-loop μ-loop
 loop-again c =
-    let p = c .before .before .before .before .push-validator in
-    let l = c .before .before .before .before .before .before .before .before .before .loop in (
-      omega arith,
-      validators-more _ (l .inv .1) (p .ensures) (p .kept .0) (p .kept .1 .0) (c .before .before .before .before
-          .before .validator-at .ensures),
-    )
+    let p = c .before .before .before .before .store-validator in
+    let l = c .before .before .before .before .before .before .before .before .loop in
+    (omega arith, validators-more _ (l .inv .1) (p .ensures) (p .kept .1 .1 .0) (p .kept .1 .1 .1 .0))
 
 same-length : tie.Need-same-length Inv-loop μ-loop
 same-length c = c .before .loop .inv .1 .identities-size
@@ -64,10 +63,9 @@ store-validators-spec =
     Inv-loop
     μ-loop
     loop-holds
-    mul-validator-at
-    add-validator-at
-    validator-at-requires
-    push-validator-requires
+    mul-store-validator
+    add-store-validator
+    store-validator-requires
     add-i
     loop-less
     loop-again

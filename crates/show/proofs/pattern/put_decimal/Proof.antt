@@ -1,5 +1,4 @@
 use Prim.Native.Nat.{_≤_, _-_}
-use native.Mathlib.Omega.{arith}
 use borrow.Author.Needs.{needs}
 use Rattle.show.proofs.pattern.put_decimal.Statement.{statement}
 use Rattle.show.proofs.pattern.put_decimal.Tie as tie

@@ -1,7 +1,6 @@
 use mathlib.Core.Path.{_≡_, refl}
 use Prim.Native.Nat.{_-_, _≤_}
 use native.Mathlib.Omega.{arith}
-use borrow.Author.Needs.{needs}
 use Rattle.expected_withdrawals.specs.Expected.{blank, coded-withdrawal}
 use Rattle.slices.specs.Withdrawals.{withdrawal-at}
 use Rattle.slices.proofs.Copy.{Filled, filled-none, filled-more, filled-all}
