@@ -1,5 +1,5 @@
 #!/usr/bin/env python3
-"""Makes the recorded data, oracle/recorded/recorded.bin, and the tables of its README.md.
+"""Makes the recorded data, crates/replay/data/recorded.bin, and the tables of oracle/recorded/README.md.
 
     record.py           builds the oracle, runs every case and writes both files
     record.py --check   makes both anew and compares them with the files that stand
@@ -28,9 +28,9 @@ EXTREME_CASES = 40
 ROW_CASES = 80
 DAMAGED_CASES = 60
 
-DATA = pathlib.Path(__file__).resolve().parent / "recorded"
-RECORDED = DATA / "recorded.bin"
-README = DATA / "README.md"
+ORACLE = pathlib.Path(__file__).resolve().parent
+RECORDED = ORACLE.parent / "crates/replay/data/recorded.bin"
+README = ORACLE / "recorded/README.md"
 GENERATED = "<!-- All below this line is written by oracle/record.py. -->\n"
 
 

@@ -6,7 +6,8 @@ use crate::{
 use oracle::{
     acceptance,
     answer::{answer, assign, expected, Engine},
-    books::{setting, Books, Withdrawal},
+    books::{setting, Books, Call, Settings, Withdrawal, SETTINGS},
+    file,
 };
 use std::cell::Cell;
 
@@ -30,10 +31,25 @@ pub fn hush() {
 struct Want {
     number: u32,
     after: Option<Books>,
-    /// the results of a question, where it is answered 0
+    /// the results, where it is answered 0: numbers, and what the lent words and bytes begin with
     numbers: Option<[u64; 2]>,
-    list: Option<Vec<Withdrawal>>,
+    words: Vec<u64>,
+    bytes: Vec<u8>,
     failure: Option<String>,
+}
+
+impl Want {
+    fn refused(number: u32) -> Want {
+        Want { number, ..Want::default() }
+    }
+
+    fn failed(failure: &str) -> Want {
+        Want { failure: Some(failure.into()), ..Want::default() }
+    }
+
+    fn numbers(first: u64, second: u64) -> Want {
+        Want { numbers: Some([first, second]), ..Want::default() }
+    }
 }
 
 /// The books in the lent buffers and the same books as the oracle holds them.
@@ -72,73 +88,145 @@ fn take(lent: &mut Lent, held: Option<&Books>, step: &Step) -> Result<(u8, Optio
     QUIET.set(false);
     let before = lent.clone();
     let given = lent::call(lent, step);
-    match difference(&before, lent, &given, &want) {
+    match difference(&kept(before, step, want.number), lent, &given, &want) {
         Some(difference) => Err(difference),
         None => Ok((given.number, want.after)),
     }
 }
 
+/// What stands past the records must be what stood there; past those of a calls file, what its calls leave one by one.
+fn kept(before: Lent, step: &Step, number: u32) -> Lent {
+    match &step.ask {
+        Ask::CarryOut(file, _) if number == 0 => {
+            lent::one_by_one(&before, &file::calls_of(&file.0, false).expect("a calls file"))
+        }
+        _ => before,
+    }
+}
+
 /// Document 01's order: 1, 3, 2, then the call.
 fn wanted(lent: &Lent, held: Option<&Books>, step: &Step) -> Want {
-    if let Ask::Assignment(given) = &step.ask {
-        return match assign(given) {
-            Ok((0, left, epoch)) => Want { numbers: Some([left as u64, epoch as u64]), ..Want::default() },
-            Ok((number, _, _)) => Want { number, ..Want::default() },
-            Err(failure) => Want { failure: Some(failure.into()), ..Want::default() },
-        };
-    }
     let settings = lent.settings();
-    let limits = &settings[setting::REGISTRY_LIMIT..];
-    let short = || limits.iter().zip(lent.rooms()).any(|(&limit, room)| limit > room as u64);
-    let refused = |number: u32| Want { number, ..Want::default() };
-    if !acceptance::settings_faults(&settings).is_empty() {
-        return refused(1);
-    }
-    if step.unfit(lent) || short() {
-        return refused(3);
-    }
-    let Some(books) = held else { return refused(2) };
     match &step.ask {
-        Ask::Call(call) => {
-            let answer = answer(Engine::Both, books, call, u64::MAX);
-            Want { number: answer.number, after: answer.after, failure: answer.failure, ..Want::default() }
-        }
-        _ if acceptance::judge(books, u64::MAX) != 0 => refused(2),
-        Ask::Total => Want { numbers: Some([books.total() as u64, FILLER]), ..Want::default() },
-        _ => match expected(books) {
-            Ok((list, partials)) => Want {
-                numbers: Some([list.len() as u64, partials as u64]),
-                list: Some(list),
-                ..Want::default()
+        Ask::Assignment(given) => match assign(given) {
+            Ok((0, left, epoch)) => Want::numbers(left as u64, epoch as u64),
+            Ok((number, _, _)) => Want::refused(number),
+            Err(failure) => Want::failed(failure),
+        },
+        // 60 over the whole file first
+        Ask::Read(file) => match file::books_of(&file.0) {
+            Err(_) => Want::refused(60),
+            Ok(books) => match handed(lent, &books.settings, Some(&books), step) {
+                0 => Want { after: Some(books), ..Want::default() },
+                number => Want::refused(number),
             },
-            Err(failure) => Want { failure: Some(failure.into()), ..Want::default() },
+        },
+        _ => match (handed(lent, &settings, held, step), held) {
+            (0, Some(books)) => asked(books, &step.ask),
+            (number, _) => Want::refused(number),
         },
     }
 }
 
-fn difference(before: &Lent, after: &Lent, given: &Given, want: &Want) -> Option<String> {
+/// 1, 3, 2 for settings and books that are to stand in these buffers.
+fn handed(lent: &Lent, settings: &Settings, books: Option<&Books>, step: &Step) -> u32 {
+    let limits = &settings[setting::REGISTRY_LIMIT..];
+    let short = || limits.iter().zip(lent.rooms()).any(|(&limit, room)| limit > room as u64);
+    if !acceptance::settings_faults(settings).is_empty() {
+        return 1;
+    }
+    if step.unfit(lent) || short() {
+        return 3;
+    }
+    books.map_or(2, |books| acceptance::judge(books, u64::MAX))
+}
+
+/// What is asked of accepted books.
+fn asked(books: &Books, ask: &Ask) -> Want {
+    match ask {
+        Ask::Call(call) => {
+            let answer = answer(Engine::Both, books, call, u64::MAX);
+            Want { number: answer.number, after: answer.after, failure: answer.failure, ..Want::default() }
+        }
+        Ask::Total => Want::numbers(books.total() as u64, FILLER),
+        Ask::Write(room) => {
+            let bytes = file::write_books(books);
+            match bytes.len() {
+                length if length > *room => Want::refused(61),
+                length => Want { bytes, ..Want::numbers(length as u64, FILLER) },
+            }
+        }
+        Ask::CarryOut(file, room) => match file::calls_of(&file.0, false) {
+            Err(_) => Want::refused(60),
+            Ok(calls) if 3 * calls.len() > *room => Want::refused(61),
+            Ok(calls) => carried_out(books, &calls),
+        },
+        Ask::Expected => match expected(books) {
+            Ok((list, partials)) => Want {
+                words: record_words(&list),
+                bytes: address_bytes(&list),
+                ..Want::numbers(list.len() as u64, partials as u64)
+            },
+            Err(failure) => Want::failed(failure),
+        },
+        Ask::Read(_) | Ask::Assignment(_) => unreachable!("asked of no books"),
+    }
+}
+
+/// Each call on the books that the last one left, with three numbers of each.
+fn carried_out(opening: &Books, calls: &[Call]) -> Want {
+    let mut books = opening.clone();
+    let mut words = vec![];
+    for call in calls {
+        let answer = answer(Engine::Both, &books, call, u64::MAX);
+        if let Some(failure) = answer.failure {
+            return Want::failed(&failure);
+        }
+        books = answer.after.unwrap_or(books);
+        words.extend([call.code().into(), answer.number.into(), books.total() as u64]);
+    }
+    Want { words, after: Some(books), ..Want::numbers(calls.len() as u64, FILLER) }
+}
+
+/// Sixteen records of an expected list, blank past it.
+fn record_words(list: &[Withdrawal]) -> Vec<u64> {
+    let mut words: Vec<u64> = list.iter().flat_map(|one| [one.index, one.validator, one.amount]).collect();
+    words.resize(3 * 16, 0);
+    words
+}
+
+fn address_bytes(list: &[Withdrawal]) -> Vec<u8> {
+    let mut bytes: Vec<u8> = list.iter().flat_map(|one| one.address).collect();
+    bytes.resize(20 * 16, 0);
+    bytes
+}
+
+fn difference(kept: &Lent, after: &Lent, given: &Given, want: &Want) -> Option<String> {
     if let Some(failure) = &want.failure {
         return Some(format!("the mended Rust: {failure}"));
     }
     if u32::from(given.number) != want.number {
         return Some(format!("answers: library {}, Rust {}", given.number, want.number));
     }
-    books_difference(before, after, want.after.as_ref()).or_else(|| results_difference(given, want))
+    books_difference(kept, after, want.after.as_ref()).or_else(|| results_difference(given, want))
 }
 
 /// The library's buffers against the books that the Rust left, or against what they held.
-fn books_difference(before: &Lent, after: &Lent, books: Option<&Books>) -> Option<String> {
+fn books_difference(kept: &Lent, after: &Lent, books: Option<&Books>) -> Option<String> {
     let Some(books) = books else {
-        return (before != after).then(|| "the library changed a buffer, the Rust changes none".into());
+        return (kept != after).then(|| "the library changed a buffer, the Rust changes none".into());
     };
-    if before.settings != after.settings {
-        return Some("the library changed the settings".into());
+    if after.settings[..SETTINGS] != books.settings {
+        return Some(format!("settings: library {:?}, Rust {:?}", after.settings, books.settings));
+    }
+    if kept.settings[SETTINGS..] != after.settings[SETTINGS..] {
+        return Some("the library changed numbers past the settings".into());
     }
     let scalars = lent::scalar_words(books);
     if after.scalars[..NUMBERS] != scalars {
         return Some(format!("scalars: library {:?}, Rust {scalars:?}", &after.scalars[..NUMBERS]));
     }
-    if before.scalars[NUMBERS..] != after.scalars[NUMBERS..] {
+    if kept.scalars[NUMBERS..] != after.scalars[NUMBERS..] {
         return Some("the library changed numbers past the scalars".into());
     }
     let [validators, deposits, partials, consolidations] = &after.tables;
@@ -163,8 +251,8 @@ fn books_difference(before: &Lent, after: &Lent, books: Option<&Books>) -> Optio
     }
     let bytes = IDENTITY * books.validators.len();
     let past = |table: usize| WIDTHS[table] * after.count(table) as usize;
-    let changed = before.identities[bytes..] != after.identities[bytes..]
-        || (0..4).any(|table| before.tables[table][past(table)..] != after.tables[table][past(table)..]);
+    let changed = kept.identities[bytes..] != after.identities[bytes..]
+        || (0..4).any(|table| kept.tables[table][past(table)..] != after.tables[table][past(table)..]);
     changed.then(|| "the library changed words past the records".into())
 }
 
@@ -188,18 +276,16 @@ fn results_difference(given: &Given, want: &Want) -> Option<String> {
     if given.numbers != numbers {
         return Some(format!("results: library {:x?}, Rust {numbers:x?}", given.numbers));
     }
-    let mut records = vec![FILLER; given.records.len()];
-    let mut addresses = vec![BYTE; given.addresses.len()];
-    if let Some(list) = &want.list {
-        records[..48].fill(0);
-        addresses[..320].fill(0);
-        for (position, one) in list.iter().enumerate() {
-            records[3 * position..][..3].copy_from_slice(&[one.index, one.validator, one.amount]);
-            addresses[20 * position..][..20].copy_from_slice(&one.address);
-        }
+    let mut words = want.words.clone();
+    words.resize(given.words.len(), FILLER);
+    if given.words != words {
+        return Some(format!("results: library {:?}, Rust {:?}", given.words, want.words));
     }
-    if given.records != records || given.addresses != addresses {
-        return Some(format!("expected list: library {:?}, Rust {:?}", given.records, want.list));
+    let mut bytes = want.bytes.clone();
+    bytes.resize(given.bytes.len(), BYTE);
+    if given.bytes != bytes {
+        let at = given.bytes.iter().zip(&bytes).position(|(ours, theirs)| ours != theirs);
+        return Some(format!("bytes: the first that differs is {at:?}"));
     }
     None
 }
@@ -209,7 +295,6 @@ mod tests {
     //! Each part of what the library leaves is really compared.
     use super::*;
     use crate::{maker::Maker, step::Lengths};
-    use oracle::books::Call;
 
     /// Buffers before and after a done turn, what was given and what is wanted.
     fn turned() -> (Lent, Lent, Given, Want) {
@@ -257,11 +342,11 @@ mod tests {
         given.numbers[1] ^= 1;
         assert!(difference(&before, &after, &given, &want).is_some());
         given.numbers[1] ^= 1;
-        given.addresses[0] ^= 1;
+        given.bytes[0] ^= 1;
         assert!(difference(&before, &after, &given, &want).is_some());
-        given.addresses[0] ^= 1;
+        given.bytes[0] ^= 1;
         given.number = 2;
-        let refused = Want { number: 2, ..Want::default() };
+        let refused = Want::refused(2);
         assert!(difference(&before, &after, &given, &refused).is_some());
         assert_eq!(difference(&before, &before, &given, &refused), None);
     }

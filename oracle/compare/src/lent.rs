@@ -24,10 +24,13 @@ pub struct Lent {
 /// What a call of the library gave besides the books.
 pub struct Given {
     pub number: u8,
-    /// the numbers lent for results: total, or count and partial count, or left and epoch
+    /// the numbers lent for results: total, or count and partial count, or left and epoch, or a file's length, or the
+    /// count of its calls
     pub numbers: [u64; 2],
-    pub records: Vec<u64>,
-    pub addresses: Vec<u8>,
+    /// the records of an expected list, or the results of calls
+    pub words: Vec<u64>,
+    /// the addresses of an expected list, or a file
+    pub bytes: Vec<u8>,
 }
 
 /// What stands in lent numbers before a call.
@@ -206,12 +209,13 @@ fn of_length(bytes: &[u8], length: usize) -> Box<[u8]> {
 /// One call of the library.
 pub fn call(lent: &mut Lent, step: &Step) -> Given {
     let Lengths { key, credentials, address, records, addresses } = step.lengths;
-    let mut given = Given {
-        number: 0,
-        numbers: [FILLER; 2],
-        records: vec![FILLER; records],
-        addresses: vec![BYTE; addresses],
+    let (words, bytes) = match step.ask {
+        Ask::Write(room) => (0, room),
+        Ask::CarryOut(_, room) => (room, 0),
+        _ => (records, addresses),
     };
+    let mut given =
+        Given { number: 0, numbers: [FILLER; 2], words: vec![FILLER; words], bytes: vec![BYTE; bytes] };
     let [first, second] = &mut given.numbers;
     given.number = match &step.ask {
         Ask::Call(of_file) => call_of_file(lent, of_file, key, credentials, address, records, addresses),
@@ -219,13 +223,27 @@ pub fn call(lent: &mut Lent, step: &Step) -> Given {
         Ask::Expected => call!(
             solarbasil_get_expected_withdrawals,
             lent,
-            given.records.as_mut_ptr(),
-            records,
-            given.addresses.as_mut_ptr(),
-            addresses,
+            given.words.as_mut_ptr(),
+            words,
+            given.bytes.as_mut_ptr(),
+            bytes,
             first,
             second,
         ),
+        Ask::Read(file) => read(lent, &file.0),
+        Ask::Write(_) => call!(solarbasil_write_books, lent, given.bytes.as_mut_ptr(), bytes, first),
+        Ask::CarryOut(file, _) => {
+            let file = of_length(&file.0, file.0.len());
+            call!(
+                solarbasil_carry_out,
+                lent,
+                file.as_ptr(),
+                file.len(),
+                given.words.as_mut_ptr(),
+                words,
+                first,
+            )
+        }
         // Safety: two numbers of our own.
         Ask::Assignment(g) => unsafe {
             ffi::solarbasil_epoch_assignment(
@@ -240,6 +258,43 @@ pub fn call(lent: &mut Lent, step: &Step) -> Given {
         },
     };
     given
+}
+
+/// The buffers after the calls of a file, each made by itself.
+pub fn one_by_one(lent: &Lent, calls: &[Call]) -> Lent {
+    let mut lent = lent.clone();
+    for call in calls {
+        let listed = if let Call::Withdrawals(list) = call { list.len() } else { 0 };
+        call_of_file(&mut lent, call, 48, 32, 20, 3 * listed, 20 * listed);
+    }
+    lent
+}
+
+/// As `call!`, but that the settings may change too.
+fn read(lent: &mut Lent, file: &[u8]) -> u8 {
+    let Lent { settings, scalars, identities, tables: [validators, deposits, partials, consolidations] } =
+        lent;
+    let file = of_length(file, file.len());
+    unsafe {
+        ffi::solarbasil_read_books(
+            settings.as_mut_ptr(),
+            settings.len(),
+            scalars.as_mut_ptr(),
+            scalars.len(),
+            identities.as_mut_ptr(),
+            identities.len(),
+            validators.as_mut_ptr(),
+            validators.len(),
+            deposits.as_mut_ptr(),
+            deposits.len(),
+            partials.as_mut_ptr(),
+            partials.len(),
+            consolidations.as_mut_ptr(),
+            consolidations.len(),
+            file.as_ptr(),
+            file.len(),
+        )
+    }
 }
 
 fn call_of_file(

@@ -2,7 +2,7 @@
 use crate::{
     dice::Dice,
     lent::{Lent, NUMBERS, WIDTHS},
-    step::{Ask, Lengths, Spoil, Step},
+    step::{Ask, File, Lengths, Spoil, Step},
 };
 use oracle::{
     books::{
@@ -10,6 +10,7 @@ use oracle::{
         BOUND, FAR,
     },
     engine::{wide, Assignment},
+    file,
     fill::near_miss,
 };
 
@@ -27,9 +28,10 @@ enum Size {
     Most,
 }
 
-/// Which steps a case draws from: all of them, or mostly those that consolidate, queue or withdraw.
-const MIXES: [&[u32]; 5] = [
-    &[1, 2, 3, 3, 4, 4, 5, 5, 6, 6, 7, 7, 8, 8, 91, 92, 93, 94, 95, 96],
+/// Which steps a case draws from: all of them, or mostly those that consolidate, queue or withdraw, or the files.
+const MIXES: [&[u32]; 6] = [
+    &[1, 2, 3, 3, 4, 4, 5, 5, 6, 6, 7, 7, 8, 8, 91, 92, 93, 94, 95, 96, 97, 98, 99],
+    &[97, 97, 98, 99, 99, 3, 5, 7],
     &[6, 6, 6, 6, 92, 92, 7, 3, 1, 4],
     &[3, 3, 3, 5, 6, 92, 7, 91],
     &[5, 5, 5, 7, 8, 8, 8, 94, 1, 4],
@@ -378,6 +380,9 @@ impl Maker {
             94 => Ask::Expected,
             95 => Ask::Total,
             96 => Ask::Assignment(self.assignment()),
+            97 => Ask::Read(self.books_file(books)),
+            98 => Ask::Write(self.room(file::write_books(books).len())),
+            99 => self.calls_file(books),
             _ => Ask::Call(self.call(books, code)),
         };
         let mut lengths = Lengths::RIGHT;
@@ -408,8 +413,8 @@ impl Maker {
     }
 
     fn spoil(&mut self, books: &Books, lent: &Lent) -> Spoil {
+        let odd = self.odd();
         let dice = &mut self.dice;
-        let odd = dice.pick(&[0, 1, 2, 65_537, (1 << 44) + 1, TOP, TOP + 1, u64::MAX - 1, u64::MAX]);
         let table = dice.below(4) as usize;
         let records =
             [books.validators.len(), books.deposits.len(), books.partials.len(), books.consolidations.len()];
@@ -426,6 +431,69 @@ impl Maker {
                 Spoil::Word(table, dice.below(words as u64) as usize, odd)
             }
         }
+    }
+
+    // ---- files
+
+    /// As much room as is needed, more, or less.
+    fn room(&mut self, needed: usize) -> usize {
+        let less = shorter(&mut self.dice, needed);
+        self.dice.pick(&[needed, needed, needed + 1, needed + 5, less])
+    }
+
+    /// A file of these books or of others, at times unsound or damaged.
+    fn books_file(&mut self, books: &Books) -> File {
+        let mut books = match self.dice.below(3) {
+            0 => books.clone(),
+            _ => {
+                let chain = books.settings[..15].try_into().expect("chain values");
+                self.books(chain)
+            }
+        };
+        let odd = self.odd();
+        match self.dice.below(20) {
+            0 => books.settings[self.dice.below(19) as usize] = odd,
+            1 => books.scalars[self.dice.below(9) as usize] = odd.into(),
+            2 => books.validators[0].balance = odd.into(),
+            3 => books.settings[self.dice.between(15, 18) as usize] = self.dice.between(1, 4),
+            _ => {}
+        }
+        self.damaged(file::write_books(&books))
+    }
+
+    fn calls_file(&mut self, books: &Books) -> Ask {
+        let most = if self.size == Size::Few { 12 } else { 3 };
+        let calls: Vec<Call> = (0..self.dice.below(most + 1))
+            .map(|_| {
+                let code = self.dice.between(1, 8) as u32;
+                self.call(books, code)
+            })
+            .collect();
+        let room = self.room(3 * calls.len());
+        Ask::CarryOut(self.damaged(file::write_calls(&calls)), room)
+    }
+
+    /// At times cut, longer, or with a bit or a word changed, for some of these with an end word that fits.
+    fn damaged(&mut self, mut bytes: Vec<u8>) -> File {
+        let dice = &mut self.dice;
+        if dice.chance(75) {
+            return File(bytes);
+        }
+        let at = dice.below(bytes.len() as u64) as usize;
+        match dice.below(5) {
+            0 => bytes.truncate(dice.pick(&[at, at - at % 4, bytes.len() - 4])),
+            1 => bytes.extend((0..dice.between(1, 8)).map(|_| dice.next() as u8)),
+            2 => bytes[at - at % 4 + 3] ^= 1 << dice.between(4, 7),
+            _ => bytes[at] ^= 1 << dice.below(8),
+        }
+        if dice.chance(60) {
+            file::mend_end(&mut bytes);
+        }
+        File(bytes)
+    }
+
+    fn odd(&mut self) -> u64 {
+        self.dice.pick(&[0, 1, 2, 65_537, (1 << 44) + 1, TOP, TOP + 1, u64::MAX - 1, u64::MAX])
     }
 
     /// An index: mostly one of a validator that could leave, at times any, at times none.

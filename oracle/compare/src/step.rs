@@ -1,6 +1,10 @@
 //! One step of a case: what is asked, the lengths of the buffers lent with it, and what is spoiled before it.
 use crate::lent::{Lent, NUMBERS};
-use oracle::{books::Call, engine::Assignment};
+use oracle::{
+    books::{Call, SETTINGS},
+    engine::Assignment,
+};
+use std::fmt;
 
 #[derive(Clone, Debug)]
 pub enum Ask {
@@ -8,6 +12,27 @@ pub enum Ask {
     Expected,
     Total,
     Assignment(Assignment),
+    /// a books file
+    Read(File),
+    /// how many bytes the file has room for
+    Write(usize),
+    /// a calls file, and how many numbers the results have room for
+    CarryOut(File, usize),
+}
+
+/// The bytes of a file.
+#[derive(Clone)]
+pub struct File(pub Vec<u8>);
+
+impl fmt::Debug for File {
+    fn fmt(&self, f: &mut fmt::Formatter<'_>) -> fmt::Result {
+        const MOST: usize = 4_000;
+        self.0.iter().take(MOST).try_for_each(|byte| write!(f, "{byte:02x}"))?;
+        if self.0.len() > MOST {
+            write!(f, "..")?;
+        }
+        write!(f, " ({} bytes)", self.0.len())
+    }
 }
 
 /// Lengths of what a call is handed besides the books: bytes of a key, credentials and an address, numbers and bytes
@@ -83,6 +108,9 @@ impl Step {
             Ask::Expected => "expected list",
             Ask::Total => "total",
             Ask::Assignment(_) => "assignment",
+            Ask::Read(_) => "read books",
+            Ask::Write(_) => "write books",
+            Ask::CarryOut(..) => "carry out",
         }
     }
 
@@ -94,6 +122,7 @@ impl Step {
             Ask::Call(Call::Request { .. }) => address != 20 || key != 48,
             Ask::Call(Call::Withdrawals(list)) => records < 3 * list.len() || addresses < 20 * list.len(),
             Ask::Expected => records < 3 * 16 || addresses < 20 * 16,
+            Ask::Read(_) => lent.settings.len() < SETTINGS,
             _ => false,
         };
         own || lent.scalars.len() < NUMBERS

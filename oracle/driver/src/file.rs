@@ -168,12 +168,17 @@ fn sum_of(words: &[u32]) -> u32 {
     words.iter().fold(0u32, |sum, &word| sum.wrapping_add(word)) & LOW_28
 }
 
+/// What the program reads.
+fn short_enough(bytes: &[u8]) -> Result<&[u8], Broken> {
+    if bytes.len() > FILE_BYTES {
+        return Err("more than 65,536 bytes".into());
+    }
+    Ok(bytes)
+}
+
 fn words_of(bytes: &[u8]) -> Result<Vec<u32>, Broken> {
     if bytes.is_empty() {
         return Err("empty or missing".into());
-    }
-    if bytes.len() > FILE_BYTES {
-        return Err("more than 65,536 bytes".into());
     }
     if bytes.len() % 4 != 0 {
         return Err("a length that is no multiple of 4".into());
@@ -181,7 +186,25 @@ fn words_of(bytes: &[u8]) -> Result<Vec<u32>, Broken> {
     Ok(bytes.chunks(4).map(|four| u32::from_le_bytes(four.try_into().expect("four bytes"))).collect())
 }
 
+fn bytes_of(words: &[u32]) -> Vec<u8> {
+    words.iter().flat_map(|word| word.to_le_bytes()).collect()
+}
+
+/// The file with an end word that fits, where it has whole words.
+pub fn mend_end(bytes: &mut Vec<u8>) {
+    if let Ok(mut words) = words_of(bytes) {
+        words.pop();
+        words.push(kind::END << 28 | sum_of(&words));
+        *bytes = bytes_of(&words);
+    }
+}
+
 pub fn read_books(bytes: &[u8]) -> Result<Books, Broken> {
+    short_enough(bytes).and_then(books_of)
+}
+
+/// A books file of any length.
+pub fn books_of(bytes: &[u8]) -> Result<Books, Broken> {
     let words = words_of(bytes)?;
     let mut reader = Reader { words: &words, at: 0 };
     reader.head(HEAD_BOOKS)?;
@@ -219,6 +242,11 @@ pub fn read_books(bytes: &[u8]) -> Result<Books, Broken> {
 
 /// `steps` also reads the codes 91, 92 and 93, which no file of document 01 holds.
 pub fn read_calls(bytes: &[u8], steps: bool) -> Result<Vec<Call>, Broken> {
+    short_enough(bytes).and_then(|bytes| calls_of(bytes, steps))
+}
+
+/// A calls file of any length.
+pub fn calls_of(bytes: &[u8], steps: bool) -> Result<Vec<Call>, Broken> {
     let words = words_of(bytes)?;
     let mut reader = Reader { words: &words, at: 0 };
     reader.head(HEAD_CALLS)?;
@@ -270,7 +298,7 @@ impl Writer {
 
     fn end(mut self) -> Vec<u8> {
         self.word(kind::END, sum_of(&self.words));
-        self.words.iter().flat_map(|word| word.to_le_bytes()).collect()
+        bytes_of(&self.words)
     }
 
     fn call(&mut self, call: &Call) {

@@ -1,0 +1,157 @@
+// Books of a file laid into lent tables as they are, sound or not: for what no reader accepts. What a table has no room
+// for is left out.
+use crate::words::put_byte;
+use file_words::word_at;
+use primitives::Epoch;
+use primitives::Gwei;
+use primitives::Scalars;
+use primitives::Settings;
+use primitives::ValidatorIndex;
+use primitives::WithdrawalIndex;
+ghost use Prim.Native.Nat.{_<_, _≤_, _^_};
+
+fn put(table: &mut [u64], at: usize, n: u64) {
+    if at < table.len() {
+        table[at] = n;
+    }
+}
+
+fn number(file: &[u8], k: usize) -> u64
+    requires { ⌜ k ≤ 2 ^ 40 ⌝ }
+{
+    let low = word_at(file, k) % 0x1000_0000;
+    let middle = word_at(file, k + 1) % 0x1000_0000;
+    let top = word_at(file, k + 2) % 256;
+    low as u64 + middle as u64 * 0x1000_0000 + top as u64 * 0x100_0000_0000_0000
+}
+
+fn count(file: &[u8], k: usize) -> usize
+    ensures { λ r. ⌜ r < 2 ^ 28 ⌝ }
+{
+    (word_at(file, k) % 0x1000_0000) as usize
+}
+
+// Byte j of a field: three bytes a word, the first highest.
+fn byte(file: &[u8], k: usize, j: usize) -> u8
+    requires { ⌜ k ≤ 2 ^ 40 ⌝ }
+    requires { ⌜ j ≤ 2 ^ 40 ⌝ }
+{
+    let w = word_at(file, k + j / 3);
+    let place = j % 3;
+    if place == 0 {
+        return (w / 65536 % 256) as u8;
+    }
+    if place == 1 {
+        return (w / 256 % 256) as u8;
+    }
+    (w % 256) as u8
+}
+
+// n numbers from word k on.
+fn lay_numbers(file: &[u8], k: usize, n: usize, table: &mut [u64], at: usize)
+    requires { ⌜ k ≤ 2 ^ 38 ⌝ }
+    requires { ⌜ n ≤ 2 ^ 32 ⌝ }
+    requires { ⌜ at ≤ 2 ^ 40 ⌝ }
+{
+    let mut i: usize = 0;
+    while i < n {
+        put(table, at + i, number(file, k + i * 3));
+        i += 1;
+    }
+}
+
+// n bytes from word k on.
+fn lay_bytes(file: &[u8], k: usize, n: usize, table: &mut [u8], at: usize)
+    requires { ⌜ k ≤ 2 ^ 40 ⌝ }
+    requires { ⌜ n ≤ 2 ^ 40 ⌝ }
+    requires { ⌜ at ≤ 2 ^ 40 ⌝ }
+{
+    let mut j: usize = 0;
+    while j < n {
+        put_byte(table, at + j, byte(file, k, j));
+        j += 1;
+    }
+}
+
+fn lay_validators(file: &[u8], n: usize, identities: &mut [u8], validators: &mut [u64])
+    requires { ⌜ n ≤ 2 ^ 28 ⌝ }
+{
+    let mut i: usize = 0;
+    while i < n {
+        let k = 86 + i * 46;
+        lay_bytes(file, k, 48, identities, i * 80);
+        lay_bytes(file, k + 16, 32, identities, i * 80 + 48);
+        put(validators, i * 7, count(file, k + 27) as u64);
+        lay_numbers(file, k + 28, 6, validators, i * 7 + 1);
+        i += 1;
+    }
+}
+
+// The fifteen chain values.
+fn row(file: &[u8]) -> [u64; 15] {
+    let mut out = [0u64; 15];
+    let mut i: usize = 0;
+    while i < 15 {
+        out[i] = number(file, 1 + i * 3);
+        i += 1;
+    }
+    out
+}
+
+pub fn settings(file: &[u8]) -> Settings {
+    Settings::from_row(
+        row(file),
+        number(file, 46) as usize,
+        number(file, 49) as usize,
+        number(file, 52) as usize,
+        number(file, 55) as usize,
+    )
+}
+
+fn scalars(
+    file: &[u8],
+    validators: usize,
+    deposits: usize,
+    partials: usize,
+    consolidations: usize,
+) -> Scalars {
+    Scalars {
+        epoch: Epoch(number(file, 58)),
+        next_withdrawal_index: WithdrawalIndex(number(file, 61)),
+        next_withdrawal_validator_index: ValidatorIndex(number(file, 64) as usize),
+        deposit_receipts_start_index: number(file, 67),
+        deposit_balance_to_consume: Gwei(number(file, 70)),
+        exit_balance_to_consume: Gwei(number(file, 73)),
+        earliest_exit_epoch: Epoch(number(file, 76)),
+        consolidation_balance_to_consume: Gwei(number(file, 79)),
+        earliest_consolidation_epoch: Epoch(number(file, 82)),
+        validators,
+        deposits,
+        partials,
+        consolidations,
+    }
+}
+
+// The four lists, and the scalars.
+pub fn lay(
+    file: &[u8],
+    identities: &mut [u8],
+    validators: &mut [u64],
+    deposits: &mut [u64],
+    partials: &mut [u64],
+    consolidations: &mut [u64],
+) -> Scalars {
+    let v = count(file, 85);
+    let deposits_place = 86 + v * 46;
+    let d = count(file, deposits_place);
+    let partials_place = deposits_place + 1 + d * 6;
+    let p = count(file, partials_place);
+    let consolidations_place = partials_place + 1 + p * 9;
+    let c = count(file, consolidations_place);
+    let laid = scalars(file, v, d, p, c);
+    lay_validators(file, v, identities, validators);
+    lay_numbers(file, deposits_place + 1, d * 2, deposits, 0);
+    lay_numbers(file, partials_place + 1, p * 3, partials, 0);
+    lay_numbers(file, consolidations_place + 1, c * 2, consolidations, 0);
+    laid
+}

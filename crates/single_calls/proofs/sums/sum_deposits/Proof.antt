@@ -1,0 +1,61 @@
+use Prim.Native.Nat.{_≤_, _-_}
+use borrow.Author.Needs.{needs}
+use Rattle.single_calls.proofs.sums.sum_deposits.Statement.{statement}
+use Rattle.single_calls.proofs.sums.sum_deposits.Tie as tie
+
+abbrev Inv-loop : tie.InvT-loop
+Inv-loop deposits n sum₀ i₀ sum i = i ≤ n
+
+abbrev μ-loop : tie.MeasureT-loop
+μ-loop deposits n sum₀ i₀ sum i = n - i
+
+loop-holds : tie.Need-loop-holds Inv-loop μ-loop
+loop-holds c = search needs
+
+returns : tie.Need-returns Inv-loop μ-loop
+returns c = search needs
+
+mul-wrapping-add-u64 : tie.Need-mul-wrapping-add-u64 Inv-loop μ-loop
+mul-wrapping-add-u64 c = search needs
+
+add-wrapping-add-u64 : tie.Need-add-wrapping-add-u64 Inv-loop μ-loop
+add-wrapping-add-u64 c = search needs
+
+mul-wrapping-add-u64-2 : tie.Need-mul-wrapping-add-u64-2 Inv-loop μ-loop
+mul-wrapping-add-u64-2 c = search needs
+
+shared-slice-read-wrapping-add-u64 : tie.Need-shared-slice-read-wrapping-add-u64 Inv-loop μ-loop
+shared-slice-read-wrapping-add-u64 c = search needs
+
+wrapping-add-u64-requires : tie.Need-wrapping-add-u64-requires Inv-loop μ-loop
+wrapping-add-u64-requires c κs = search needs
+
+add-i : tie.Need-add-i Inv-loop μ-loop
+add-i c = search needs
+
+loop-less : tie.Need-loop-less Inv-loop μ-loop
+loop-less c = search needs
+
+loop-again : tie.Need-loop-again Inv-loop μ-loop
+loop-again c = search needs
+
+returns-2 : tie.Need-returns-2 Inv-loop μ-loop
+returns-2 c = search needs
+
+pub sum-deposits-spec : {M : Type 1} → statement M
+sum-deposits-spec =
+    tie.close
+    (tie.spec
+    Inv-loop
+    μ-loop
+    loop-holds
+    returns
+    mul-wrapping-add-u64
+    add-wrapping-add-u64
+    mul-wrapping-add-u64-2
+    shared-slice-read-wrapping-add-u64
+    wrapping-add-u64-requires
+    add-i
+    loop-less
+    loop-again
+    returns-2)
