@@ -1,7 +1,8 @@
 #!/usr/bin/env bash
-# run.sh [ROUNDS]: each public call on 1,024, 16,384 and 65,536 validators, the static library beside the mended Rust.
-# Prints the table of docs/BENCHMARKS.md. Needs cargo and target/staticlib/libsolarbasil.a (interface/test.sh makes it);
-# DOCS_SRC says where docs/src is, as for the oracle. No network.
+# run.sh [ROUNDS]: each public call on 1,024, 16,384 and 65,536 validators, the static library beside the mended Rust;
+# books files beside a plain copy, and calls files beside the Rust in a loop. Prints the tables of docs/BENCHMARKS.md.
+# Needs cargo and target/staticlib/libsolarbasil.a (interface/test.sh makes it); DOCS_SRC says where docs/src is, as for
+# the oracle. No network.
 set -euo pipefail
 cd "$(dirname "$0")"
 root=$(cd .. && pwd)

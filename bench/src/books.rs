@@ -93,6 +93,16 @@ pub fn make(count: u64) -> Both {
     Both { context: context(&held.settings), state: state_of(&held), ours }
 }
 
+/// Books of 65,536 records of each kind.
+pub fn full() -> Books {
+    let mut books = make(65_536).ours;
+    while books.push_deposit(&PendingBalanceDeposit { index: 1, amount: G }).is_ok() {}
+    let partial = PendingPartialWithdrawal { index: 2, amount: G, withdrawable_epoch: EPOCH - 1 };
+    while books.push_partial(&partial).is_ok() {}
+    while books.push_consolidation(&PendingConsolidation { source_index: 8, target_index: 9 }).is_ok() {}
+    books
+}
+
 /// The same books as the oracle holds them.
 pub fn held(ours: &Books) -> held::Books {
     let s = settings();

@@ -135,7 +135,7 @@ fn turn(state: &mut State, context: &Context) -> bool {
 }
 
 /// The commit has no total: a plain sum stands beside the library's.
-fn sum(state: &State) -> u64 {
+pub fn sum(state: &State) -> u64 {
     let waiting: u64 = state.pending_balance_deposits.iter().map(|deposit| deposit.amount).sum();
     state.balances.iter().sum::<u64>() + waiting
 }

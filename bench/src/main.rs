@@ -1,41 +1,64 @@
 //! Each public call on the same books, by the static library with all its tests of what is handed in, and by the mended
-//! Rust, which has no such tests, in one process. Prints a table: median times, and the median of the
-//! rounds' ratios with its quartiles.
+//! Rust, which has no such tests, in one process; then the two files. Prints tables: median times, and the median of
+//! the rounds' ratios with its quartiles.
 //!
 //!     bench [ROUNDS]
 mod books;
 mod calls;
+mod files;
+mod times;
 
 use books::{held, make, Both};
 use calls::{pairs, Pair};
 use oracle::engine::narrow::state_of;
-use std::{
-    env,
-    hint::black_box,
-    time::{Duration, Instant},
-};
+use std::{env, hint::black_box, time::Duration};
+use times::{median, medians, micros, ratio, rounds, timed};
 
-const COUNTS: [u64; 3] = [1_024, 16_384, 65_536];
+const VALIDATORS: [u64; 3] = [1_024, 16_384, 65_536];
 const ROUNDS: usize = 101;
 
 fn main() {
-    let rounds = env::args().nth(1).map_or(ROUNDS, |text| text.parse().expect("a number of rounds"));
-    println!("| call | validators | library, µs | Rust, µs | library / Rust |");
-    println!("|---|---:|---:|---:|---:|");
-    let books: Vec<(u64, Both, Vec<Pair>)> = COUNTS
-        .map(|count| {
-            let both = make(count);
-            let list = both.ours.get_expected_withdrawals().expect("an expected list").list;
-            (count, both, pairs(count, list))
-        })
-        .into();
-    for position in 0..books[0].2.len() {
-        for (count, both, pairs) in &books {
-            check(both, &pairs[position]);
-            print(&pairs[position], *count, &measure(both, &pairs[position], rounds));
+    let count = env::args().nth(1).map_or(ROUNDS, |text| text.parse().expect("a number of rounds"));
+    println!("| call | validators | library, µs | Rust, µs | library / Rust | tests, µs | core, µs | core / Rust |");
+    println!("|---|---:|---:|---:|---:|---:|---:|---:|");
+    let books = VALIDATORS.map(Subject::new);
+    for position in 0..books[0].pairs.len() {
+        for subject in &books {
+            let pair = &subject.pairs[position];
+            check(&subject.both, pair);
+            let (times, tests) = measure(subject, pair, count);
+            print(pair, subject.validators, &times, &tests);
         }
     }
-    assignment(rounds);
+    assignment(count);
+    println!();
+    files::books_files(count);
+    println!();
+    files::calls_files(count);
+}
+
+/// Books of so many validators on both sides, and the calls on them.
+struct Subject {
+    validators: u64,
+    both: Both,
+    pairs: Vec<Pair>,
+}
+
+impl Subject {
+    fn new(validators: u64) -> Self {
+        let both = make(validators);
+        let list = both.ours.get_expected_withdrawals().expect("an expected list").list;
+        Subject { validators, pairs: pairs(validators, list), both }
+    }
+
+    /// The tests of what is handed in alone: a penalty of a validator that is not there is refused right after them.
+    fn tests(&self) -> f64 {
+        let mut books = self.both.ours.clone();
+        let mut done = true;
+        let time = timed(|| done = black_box(&mut books).penalty(self.validators, 1).is_ok());
+        assert!(!done, "a penalty of no validator was done");
+        micros(&time)
+    }
 }
 
 /// Both sides leave the same books.
@@ -45,68 +68,45 @@ fn check(both: &Both, pair: &Pair) {
     assert!(state_of(&held(&ours)) == state, "{}: the books differ", pair.name);
 }
 
-/// The two times of each round. Each side gets its books fresh, outside the timed part, and they take turns in who is
-/// first.
-fn measure(both: &Both, pair: &Pair, rounds: usize) -> Vec<[Duration; 2]> {
+/// The two times of each round, and that of the tests alone. Each gets its books fresh, outside the timed part.
+fn measure(subject: &Subject, pair: &Pair, count: usize) -> (Vec<[Duration; 2]>, Vec<f64>) {
+    let both = &subject.both;
+    let mut tests = Vec::new();
     let ours = || {
+        tests.push(subject.tests());
         let mut books = both.ours.clone();
-        let start = Instant::now();
-        black_box((pair.ours)(black_box(&mut books)));
-        start.elapsed()
+        timed(|| (pair.ours)(black_box(&mut books)))
     };
     let rust = || {
         let mut state = both.state.clone();
-        let start = Instant::now();
-        black_box((pair.rust)(black_box(&mut state), &both.context));
-        start.elapsed()
+        timed(|| (pair.rust)(black_box(&mut state), &both.context))
     };
-    let round = |number: usize| {
-        if number % 2 == 0 {
-            let first = ours();
-            [first, rust()]
-        } else {
-            let first = rust();
-            [ours(), first]
-        }
-    };
-    (0..rounds).map(round).collect()
+    let times = rounds(count, ours, rust);
+    (times, tests)
 }
 
-/// The value below which so many quarters of the values lie.
-fn quarter(values: &[f64], quarters: usize) -> f64 {
-    let mut values = values.to_vec();
-    values.sort_by(f64::total_cmp);
-    values[(values.len() - 1) * quarters / 4]
-}
-
-fn median(values: &[f64]) -> f64 {
-    quarter(values, 2)
-}
-
-fn micros(time: &Duration) -> f64 {
-    time.as_nanos() as f64 / 1000.0
-}
-
-/// The Rust adds one number, or little more, in less than a microsecond: the clock is too coarse for a ratio then.
-fn print(pair: &Pair, count: u64, times: &[[Duration; 2]]) {
-    let side = |side: usize| -> Vec<f64> { times.iter().map(|round| micros(&round[side])).collect() };
-    let (ours, rust) = (median(&side(0)), median(&side(1)));
-    let ratios: Vec<f64> = times.iter().map(|[ours, rust]| micros(ours) / micros(rust)).collect();
-    let [low, middle, high] = [1, 2, 3].map(|quarters| quarter(&ratios, quarters));
-    let ratio = if rust < 1.0 { String::new() } else { format!("{middle:.2} ({low:.2} to {high:.2})") };
-    println!("| `{}` | {count} | {ours:.1} | {rust:.1} | {ratio} |", pair.name);
+/// The core is what a call takes beyond the tests.
+fn print(pair: &Pair, validators: u64, times: &[[Duration; 2]], tests: &[f64]) {
+    let [ours, rust] = medians(times);
+    let tests = median(tests);
+    let core = (ours - tests).max(0.0);
+    let of_rust = if rust < 1.0 { String::new() } else { format!("{:.2}", core / rust) };
+    println!(
+        "| `{}` | {validators} | {ours:.1} | {rust:.1} | {} | {tests:.1} | {core:.1} | {of_rust} |",
+        pair.name,
+        ratio(times)
+    );
 }
 
 /// The bare assignment looks at no books; the commit computes it in the midst of others.
-fn assignment(rounds: usize) {
+fn assignment(count: usize) {
     const CALLS: u64 = 10_000;
-    let time = |_| {
-        let start = Instant::now();
+    let all = || {
         for amount in 0..CALLS {
             let given = solarbasil::epoch_assignment(0, 5, 6, 7, black_box(amount));
             black_box(given).expect("an assignment");
         }
-        micros(&start.elapsed()) / CALLS as f64
     };
-    println!("| `epoch_assignment` | | {:.4} | | |", median(&(0..rounds).map(time).collect::<Vec<f64>>()));
+    let times: Vec<f64> = (0..count).map(|_| micros(&timed(all)) / CALLS as f64).collect();
+    println!("| `epoch_assignment` | | {:.4} | | | | | |", median(&times));
 }
