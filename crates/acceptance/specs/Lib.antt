@@ -4,3 +4,4 @@ pub mod Sound
 pub mod Books
 pub mod Handed
 pub mod Held
+pub mod Total

@@ -21,6 +21,7 @@ ghost use Rattle.primitives.specs.Settings.{settings-of};
 ghost use Rattle.records.specs.Books.{tables, books-of, room-of};
 ghost use Rattle.acceptance.specs.Tests.{scalars-within};
 ghost use Rattle.acceptance.specs.Held.{BooksHeld, HeldReady};
+ghost use Rattle.acceptance.specs.Total.{total-given};
 
 // The most that the first five settings may be: 2^44.
 const MOST_GWEI: u64 = 0x1000_0000_0000;
@@ -164,7 +165,7 @@ pub struct Acceptance {
 }
 
 fn refused(number: u8) -> Acceptance
-    ensures { λ r. ⌜ r .number ≡ number ⌝ }
+    ensures { λ r. ⌜ (r .number ≡ number) × (r .held .0 ≡ 0) ⌝ }
 {
     Acceptance {
         number,
@@ -190,10 +191,12 @@ pub fn accept(
         (now (partials .entry)) (now (consolidations .entry))))
         ⌝ }
     ensures { λ r. ⌜
-        (r .number ≡ 0
-        → r .held .0
-        ≡ held (books-of scalars (tables (now (identities .entry)) (now (validators .entry)) (now (deposits .entry))
-        (now (partials .entry)) (now (consolidations .entry)))))
+        r .held .0
+        ≡ total-given (settings-of settings)
+        (books-of scalars (tables (now (identities .entry)) (now (validators .entry)) (now (deposits .entry))
+        (now (partials .entry)) (now (consolidations .entry))))
+        (room-of (tables (now (identities .entry)) (now (validators .entry)) (now (deposits .entry))
+        (now (partials .entry)) (now (consolidations .entry))))
         ⌝ }
 {
     if !settings_sound(settings) {

@@ -31,7 +31,6 @@ use Rattle.table_text.specs.Text.{table-text, refused-text, Printed}
 use Rattle.table_text.specs.Theorems.{lines-read}
 use Rattle.runs.specs.Lines.{lines, lines-length}
 use Rattle.runs.specs.InPlace.{calls-on, same-room}
-use Rattle.runs.specs.Promise as runs
 use Rattle.runs.specs.Promise.{listed-answer, carry-out-answer, CarriedOut, done-books}
 use Rattle.runs.specs.Steps.{many-size}
 use Rattle.books_output.specs.declared.files.Closing.{Closing}

@@ -2,12 +2,11 @@
 use primitives::Gwei;
 use primitives::Scalars;
 use primitives::Settings;
-use primitives::answers;
 ghost use mathlib.Core.Path.{_≡_};
 ghost use Rattle.rules.specs.Calls.{handed-refusal};
 ghost use Rattle.primitives.specs.Settings.{settings-of};
 ghost use Rattle.records.specs.Books.{tables, books-of, room-of};
-ghost use Rattle.electra.specs.Total.{total-given};
+ghost use Rattle.acceptance.specs.Total.{total-given};
 
 // The answer, and the sum; a refusal has 0 for the sum.
 pub struct Total {
@@ -55,12 +54,6 @@ pub fn held(
         partials,
         consolidations,
     );
-    if handed.number != answers::DONE {
-        return Total {
-            number: handed.number,
-            total: Gwei(0),
-        };
-    }
     let total = handed.held;
     Total {
         number: handed.number,

@@ -6,6 +6,8 @@ use primitives::Scalars;
 use primitives::Settings;
 use primitives::ValidatorIndex;
 use primitives::WithdrawalIndex;
+use primitives::min;
+use primitives::min_usize;
 use records::queues::PendingPartialWithdrawal;
 ghost use mathlib.Core.Path.{_≡_};
 ghost use mathlib.Core.List.{List};
@@ -34,18 +36,6 @@ pub struct ExpectedWithdrawals {
     pub list: [Withdrawal; 16],
     pub count: usize,
     pub partials: usize,
-}
-
-fn min_u64(a: u64, b: u64) -> u64
-    ensures { λ r. ⌜ r ≡ min a b ⌝ }
-{
-    if a < b { a } else { b }
-}
-
-fn min_usize(a: usize, b: usize) -> usize
-    ensures { λ r. ⌜ r ≡ min a b ⌝ }
-{
-    if a < b { a } else { b }
 }
 
 impl ExpectedWithdrawals {
@@ -125,7 +115,7 @@ fn partial_amount(settings: Settings, validators: &[u64], p: PendingPartialWithd
     let i = p.index;
     let balance = records::registry::balance_at(validators, i);
     let above = balance.0 - settings.min_activation_balance.0;
-    Gwei(min_u64(above, p.amount.0))
+    min(Gwei(above), p.amount)
 }
 
 // What the sweep takes of validator i, whose credential lets it withdraw, with this maximum effective balance.

@@ -5,7 +5,6 @@ use mathlib.Core.List.{List, []}
 use mathlib.Core.Option.{some}
 use Prim.Native.Nat.{ℕ}
 use lib.ListN.{length, take}
-use Rattle.rules.specs.Types as rule
 use Rattle.primitives.specs.declared.Settings.{Settings}
 use Rattle.primitives.specs.declared.Scalars.{Scalars}
 use Rattle.primitives.specs.Settings.{settings-of}

@@ -1,5 +1,5 @@
-// The fields of a file, read where they stand: whether the words from word k on are one, and which. A word behind the end
-// reads as 0, which is of no kind. A loop asks once whether all its words are there, and then stops at none: so the
+// The fields of a file, read where they stand: whether the words from word k on are one, and which. A word behind the
+// end reads as 0, which is of no kind. A loop asks once whether all its words are there, and then stops at none: so the
 // compiler takes several words at a time.
 ghost use mathlib.Core.Path.{_≡_};
 ghost use mathlib.Core.Bool.{true, _&&_};

@@ -36,6 +36,12 @@ pub fn max(a: Gwei, b: Gwei) -> Gwei
     if a.0 < b.0 { b } else { a }
 }
 
+pub fn min_usize(a: usize, b: usize) -> usize
+    ensures { λ r. ⌜ r ≡ min a b ⌝ }
+{
+    if a < b { a } else { b }
+}
+
 // The fifteen chain values, then the limits of the registry and of the three queues.
 pub struct Settings {
     pub min_activation_balance: Gwei,

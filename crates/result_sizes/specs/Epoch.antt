@@ -1,7 +1,7 @@
 -- The size of the results of rewards, penalties, the three steps and the turn, from accepted books.
 use mathlib.Core.Path.{_≡_, refl, ap, _∙_}
 use mathlib.Core.Bool.{true}
-use Prim.Native.Nat.{ℕ, _+_, _-_, _≤_, _<_}
+use Prim.Native.Nat.{ℕ, _+_, _≤_, _<_}
 use native.Mathlib.Omega.{arith}
 use lib.ListN.{length, length-drop}
 use lib.Dec.{leb}
@@ -12,7 +12,6 @@ use Rattle.rules.specs.Helpers.{count, increased, decreased, increase-balance, 
 use Rattle.rules.specs.EpochProcessing.{process-pending-balance-deposits, process-pending-consolidations}
 use Rattle.rules.specs.EpochProcessing.{process-effective-balance-updates, turn}
 use Rattle.rules.specs.Acceptance.{held, partial-amounts, within-limits, sums-within, all-epochs-within}
-use Rattle.rules.specs.Calls as calls
 use Rattle.rules.specs.Calls.{size-refusal}
 use Rattle.rules.specs.Counting.{deposit-step-counts, consolidation-step-counts}
 use Rattle.rule_laws.specs.Accepted.{SoundBooks, Epochs, epochs-so}

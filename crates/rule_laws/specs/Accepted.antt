@@ -218,11 +218,6 @@ pub fits : (S : Settings) (b : Books) → within-limits S b ≡ true → Fits S 
 unfolding within-limits
 fits S b e = record { registry = leb-true _ _ (nth _ e 0); deposits = leb-true _ _ (nth _ e 1) }
 
-pub fits-so : (S : Settings) (b : Books) → Fits S b → within-limits S b ≡ true
-unfolding within-limits
-fits-so S b f =
-    all-more _ _ (le-leb _ _ (f .registry)) (all-more _ _ (le-leb _ _ (f .deposits)) all-none)
-
 pub record Sums (b : Books) : Type 0 where
   pub held-small : held b ≤ BOUND
   pub partials-small : partial-amounts b ≤ BOUND
@@ -230,11 +225,6 @@ pub record Sums (b : Books) : Type 0 where
 pub sums : (b : Books) → sums-within b ≡ true → Sums b
 unfolding sums-within
 sums b e = record { held-small = leb-true _ _ (nth _ e 0); partials-small = leb-true _ _ (nth _ e 1) }
-
-pub sums-so : (b : Books) → Sums b → sums-within b ≡ true
-unfolding sums-within
-sums-so b s =
-    all-more _ _ (le-leb _ _ (s .held-small)) (all-more _ _ (le-leb _ _ (s .partials-small)) all-none)
 
 pub record Epochs (b : Books) : Type 0 where
   pub epoch-small : b .epoch ≤ BOUND

@@ -82,11 +82,6 @@ in-place-demand-3 c = demand-3-carried (in-place-carried c .chain)
 
 -- ---- no two outcomes
 
-pub in-place-sizes : {S : Settings} {s r : Scalars} {t u : Tables} {os : List Operation}
-    → InPlace S s t os r u → SameSizes u t
-in-place-sizes {t = t} none = sizes-none t
-in-place-sizes (next c z more) = sizes-then (in-place-sizes more) z
-
 pub in-place-fixed : {S : Settings} {s : Scalars} {t : Tables} {os : List Operation} {r q : Scalars} {u w : Tables}
     → InPlace S s t os r u → InPlace S s t os q w → (r ≡ q) × (u ≡ w)
 in-place-fixed none none = (refl, refl)

@@ -10,7 +10,7 @@ ghost use lib.Dec.{leb};
 ghost use lib.ListN.{length, getD};
 ghost use Rattle.slices.specs.Exported.{fit};
 ghost use Rattle.slices.specs.Withdrawals.{address-at, withdrawal-at, withdrawals-in};
-ghost use Rattle.slices.specs.Withdrawals.{part, record-of, with-records, with-addresses};
+ghost use Rattle.slices.specs.Withdrawals.{part, with-records, with-addresses};
 
 // The byte at place k; 0 where there is none.
 fn byte_at(bytes: &[u8], k: usize) -> u8
@@ -92,12 +92,10 @@ pub fn expected_fit(scalars: &[u64], records: &[u64], addresses: &[u8]) -> bool
     (crate::SCALARS <= scalars.len()) & (48 <= records.len()) & (320 <= addresses.len())
 }
 
-fn number_of(list: [Withdrawal; 16], q: usize) -> u64
-    requires { ⌜ q < 48 ⌝ }
-    ensures { λ r. ⌜ r ≡ part (record-of list (q / 3)) (q % 3) ⌝ }
+// Number k of a withdrawal.
+fn number_of(w: Withdrawal, k: usize) -> u64
+    ensures { λ r. ⌜ r ≡ part w k ⌝ }
 {
-    let w = list[q / 3];
-    let k = q % 3;
     if k == 0 {
         return w.index.0;
     }
@@ -113,18 +111,10 @@ pub fn store_records(records: &mut [u64], list: [Withdrawal; 16])
 {
     let mut j = 0;
     while j < 48 {
-        records[j] = number_of(list, j);
+        let w = list[j / 3];
+        records[j] = number_of(w, j % 3);
         j += 1;
     }
-}
-
-fn byte_of(list: [Withdrawal; 16], q: usize) -> u8
-    requires { ⌜ q < 320 ⌝ }
-    ensures { λ r. ⌜ r ≡ getD (record-of list (q / 20) .address) (q % 20) 0 ⌝ }
-{
-    let w = list[q / 20];
-    let a = w.address;
-    a[q % 20]
 }
 
 pub fn store_addresses(addresses: &mut [u8], list: [Withdrawal; 16])
@@ -133,7 +123,9 @@ pub fn store_addresses(addresses: &mut [u8], list: [Withdrawal; 16])
 {
     let mut j = 0;
     while j < 320 {
-        addresses[j] = byte_of(list, j);
+        let w = list[j / 20];
+        let address = w.address;
+        addresses[j] = address[j % 20];
         j += 1;
     }
 }

@@ -9,7 +9,7 @@ use Rattle.rules.specs.Acceptance.{held}
 use Rattle.rules.specs.Calls.{handed-refusal}
 use Rattle.primitives.specs.declared.Scalars.{Scalars}
 use Rattle.records.specs.Books.{Tables, books-of, room-of}
-use Rattle.electra.specs.Total.{total-given}
+use Rattle.acceptance.specs.Total.{total-given}
 use Rattle.slices.specs.Numbers.{scalars-in}
 use Rattle.slices.specs.Exported.{given, given-done}
 

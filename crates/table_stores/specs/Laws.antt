@@ -172,7 +172,9 @@ module _ (ws : List ℕ) {s : Scalars} (e : s ≡ scalars-at ws) {t u : Tables} 
       record {
         books =
             (λ j. books-with s (v₀ j) (d₀ j) (a₀ j) (c₀ j))
-            ∙ ap (λ x. books-with x (file-validators ws) (file-deposits ws) (file-partials ws) (file-consolidations ws)) e
+            ∙ ap
+            (λ x. books-with x (file-validators ws) (file-deposits ws) (file-partials ws) (file-consolidations ws))
+            e
             ∙ file-books ws;
         beyond = record {
           identities = v .identities-past;

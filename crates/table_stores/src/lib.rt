@@ -1,5 +1,5 @@
-// The records of a books file stored into the lent tables, list by list. Only a file that was judged good, whose records
-// the tables have room for, is stored.
+// The records of a books file stored into the lent tables, list by list. Only a file that was judged good, and whose
+// records the tables have room for, is stored.
 use books_file::consolidations_place;
 use books_file::deposits_place;
 use books_file::partials_place;

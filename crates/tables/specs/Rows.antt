@@ -1,7 +1,7 @@
 -- A table as a list of records: `rows n g` is g 0, g 1, .., g (n - 1), where `g i` decodes row i.
 use mathlib.Core.Path.{_≡_, refl, ap, ap₂, sym, _∙_}
 use mathlib.Core.Logic.{_≢_}
-use mathlib.Core.List.{List, [], _∷_, _++_, map}
+use mathlib.Core.List.{List, [], _∷_, _++_}
 use Prim.Native.Nat.{ℕ, zero, suc, _+_, _-_, _≤_, _<_, suc-le-suc}
 use native.Mathlib.Nat.{le-of-suc-le-suc, not-suc-le-zero, sub-zero, suc-sub-suc}
 use native.Mathlib.Numerals.{add-one}
@@ -90,9 +90,3 @@ module _ {A : Type 0} where
 
   pub drop-rows-end : (n : ℕ) (g : ℕ → A) (i : ℕ) → n ≤ i → drop i (rows n g) ≡ []
   drop-rows-end n g i h = drop-of-length-le (rows n g) {i = i} (rw length-rows h)
-
--- a table of changed records
-pub map-rows : {A B : Type 0} (f : A → B) (n : ℕ) (g : ℕ → A) → map f (rows n g) ≡ rows n (λ i. f (g i))
-unfolding rows
-map-rows f zero g = refl
-map-rows f (suc n) g = ap {B = List _} (λ l. f (g 0) ∷ l) (map-rows f n (λ k. g (suc k)))

@@ -4,9 +4,10 @@
 // blocks.
 use primitives::Gwei;
 use primitives::ValidatorIndex;
+use primitives::min_usize;
 use records::queues::PendingBalanceDeposit;
 ghost use mathlib.Core.Path.{_≡_};
-ghost use Prim.Native.Nat.{_≤_, min};
+ghost use Prim.Native.Nat.{_≤_};
 ghost use lib.ListN.{take};
 ghost use Rattle.tables.specs.Rows.{rows};
 ghost use Rattle.records.specs.Layout.{deposit-at, deposits-fit};
@@ -80,12 +81,6 @@ pub struct DepositBlock {
     pub count: usize,
 }
 
-fn min(a: usize, b: usize) -> usize
-    ensures { λ r. ⌜ r ≡ min a b ⌝ }
-{
-    if a < b { a } else { b }
-}
-
 // The deposits from position `from` on, of the first m.
 fn block_from(deposits: &[u64], from: usize, m: usize) -> DepositBlock
     requires { ⌜ (from ≤ m) × (m ≤ deposits-fit (now deposits)) ⌝ }
@@ -96,7 +91,7 @@ fn block_from(deposits: &[u64], from: usize, m: usize) -> DepositBlock
         amount: Gwei(0),
     };
     let mut list = [blank; 16];
-    let count = min(m - from, 16);
+    let count = min_usize(m - from, 16);
     let mut k = 0;
     while k < count {
         list[k] = records::queues::deposit_at(deposits, from + k);

@@ -11,6 +11,7 @@ use Rattle.primitives.specs.declared.Scalars.{Scalars}
 use Rattle.primitives.specs.Settings.{settings-of}
 use Rattle.records.specs.Books.{Tables, tables, books-of, room-of}
 use Rattle.acceptance.specs.Handed.{settings-refused, room-refused, books-refused, none-refused}
+use Rattle.acceptance.specs.Total.{total-refused, total-known}
 use borrow.Author.Needs.{needs}
 use Rattle.acceptance.proofs.accept.Statement.{statement}
 use Rattle.acceptance.proofs.accept.Tie as tie
@@ -50,7 +51,7 @@ returns c =
     let e = settings-refused (S b) (books-of (s b) (t b)) (room-of (t b))
     (sym (c .before .before .settings-sound .ensures)
     ∙ not-true (c .before .before .settings-sound .result) (c .before .if1 .taken)) in
-    (c .refused .ensures ∙ e, λ z. let f : ⊥ = omega (arith, c .refused .ensures) in absurd f)
+    (c .refused .ensures .0 ∙ e, c .refused .ensures .1 ∙ total-refused _ _ _ e (λ z. omega arith))
 
 enough-room-requires : tie.Need-enough-room-requires
 enough-room-requires c κs = search needs
@@ -64,7 +65,7 @@ returns-2 c =
     let e = room-refused (S b) (books-of (s b) (t b)) (room-of (t b)) (settings-so (c .before .before .before))
     (sym (c .before .before .enough-room .ensures)
     ∙ not-true (c .before .before .enough-room .result) (c .before .if2 .taken)) in
-    (c .refused2 .ensures ∙ e, λ z. let f : ⊥ = omega (arith, c .refused2 .ensures) in absurd f)
+    (c .refused2 .ensures .0 ∙ e, c .refused2 .ensures .1 ∙ total-refused _ _ _ e (λ z. omega arith))
 
 books-held-requires : tie.Need-books-held-requires
 books-held-requires c κs = room-so c
@@ -79,7 +80,7 @@ returns-3 c =
     let b = o .before .before .before .before in
     let e = books-refused (S b) (books-of (s b) (t b)) (room-of (t b)) (settings-so (o .before .before)) (room-so o)
     (sym (h .ensures .sound) ∙ lt-leb (h .result .0) BOUND (omega (arith, c .before .if3 .taken))) in
-    (c .refused3 .ensures ∙ e, λ z. let f : ⊥ = omega (arith, c .refused3 .ensures) in absurd f)
+    (c .refused3 .ensures .0 ∙ e, c .refused3 .ensures .1 ∙ total-refused _ _ _ e (λ z. omega arith))
 
 returns-4 : tie.Need-returns-4
 returns-4 c =
@@ -93,7 +94,7 @@ returns-4 c =
       room = room-so o;
       books = sym (h .ensures .sound) ∙ le-leb (h .result .0) BOUND small;
     }) in
-    (e, λ z. h .ensures .sum-of small)
+    (e, total-known _ _ _ (sym e) (h .ensures .sum-of small))
 
 pub accept-spec : {M : Type 1} → statement M
 accept-spec =

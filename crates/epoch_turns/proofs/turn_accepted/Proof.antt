@@ -16,11 +16,6 @@ use Rattle.epoch_turns.specs.Epoch.{registry-there, consolidations-there
 use Rattle.epoch_turns.specs.Epoch.{deposits-there, allowance-there}
 use Rattle.epoch_turns.proofs.turn_accepted.Statement.{statement}
 use Rattle.epoch_turns.proofs.turn_accepted.Tie as tie
-use Rattle.epoch_turns.proofs.turn_accepted.Reads as reads
-use Rattle.epoch_turns.proofs.turn_accepted.Lts as lts
-use Rattle.epoch_processing.proofs.turn.Reads as turn-reads
-use Rattle.helpers.proofs.churn.get_activation_exit_churn_limit.Reads as get-activation-exit-churn-limit-reads
-use Rattle.queue_room.proofs.turn_fits.Reads as turn-fits-reads
 
 -- the allowance that was computed
 allowed : (c : tie.After-get-activation-exit-churn-limit) (ps : List ℕ)
@@ -55,12 +50,10 @@ fits : (c : tie.After-turn-fits)
 fits c = sym (c .turn-fits .ensures (c .before .before .before .before .before .before .before .before .before
     .before .before .before .args .partials .now))
 
--- src/turns.rt:37:9
 get-activation-exit-churn-limit-requires : tie.Need-get-activation-exit-churn-limit-requires
 get-activation-exit-churn-limit-requires c κs = let h = c .before .before .before .before .before .before .pre in
     (settings-true _ _ _ h, registry-known _ _ _ h)
 
--- src/turns.rt:38:9
 turn-fits-requires : tie.Need-turn-fits-requires
 turn-fits-requires c κs =
     let start = c .before .before .before .before .before .before .before .before .before .before .before in
@@ -75,51 +68,40 @@ turn-fits-requires c κs =
       ),
     )
 
--- src/turns.rt:47:9
 same-length : tie.Need-same-length
 same-length c = search needs
 
--- src/turns.rt:47:9
 same-length-2 : tie.Need-same-length-2
 same-length-2 c = search needs
 
--- src/turns.rt:47:9
 same-length-3 : tie.Need-same-length-3
 same-length-3 c = search needs
 
--- src/turns.rt:47:9
 same-length-4 : tie.Need-same-length-4
 same-length-4 c = search needs
 
--- src/turns.rt:47:9
 returns : tie.Need-returns
 returns c = turn-over _ _ _ (c .before .before .before .before .before .before .before .before .before .before
     .before .before .before .pre) (fits (c .before) ∙ not-true _ (c .if1 .taken))
 
--- src/turns.rt:53:9
 same-length-5 : tie.Need-same-length-5
 same-length-5 c = search needs
 
--- src/turns.rt:53:9
 same-length-6 : tie.Need-same-length-6
 same-length-6 c = search needs
 
--- src/turns.rt:53:9
 same-length-7 : tie.Need-same-length-7
 same-length-7 c = search needs
 
--- src/turns.rt:53:9
 same-length-8 : tie.Need-same-length-8
 same-length-8 c = search needs
 
--- src/turns.rt:53:9
 returns-2 : tie.Need-returns-2
 returns-2 c =
     turn-late _ _ _ (c .before .before .before .before .before .before .before .before .before .before .before
     .before .before .before .before .pre) (fits (c .before .before .before) ∙ not-false _ (c .before .before .if1
     .left)) (c .if2 .taken)
 
--- src/turns.rt:58:9
 turn-requires : tie.Need-turn-requires
 turn-requires c κs =
     let start = c .before .before .before .before .before .before .before .before .before .before .before .before
@@ -144,23 +126,18 @@ turn-requires c κs =
       ),
     )
 
--- src/turns.rt:13:1
 same-length-9 : tie.Need-same-length-9
 same-length-9 c = search needs
 
--- src/turns.rt:13:1
 same-length-10 : tie.Need-same-length-10
 same-length-10 c = search needs
 
--- src/turns.rt:13:1
 same-length-11 : tie.Need-same-length-11
 same-length-11 c = search needs
 
--- src/turns.rt:13:1
 same-length-12 : tie.Need-same-length-12
 same-length-12 c = search needs
 
--- src/turns.rt:13:1
 returns-3 : tie.Need-returns-3
 returns-3 c =
     turn-done _ _ _ (c .before .before .before .before .before .before .before .before .before .before .before

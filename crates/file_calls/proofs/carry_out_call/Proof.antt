@@ -3,23 +3,10 @@ use borrow.Author.Needs.{needs}
 use Rattle.file_calls.specs.Laws.{code-last}
 use Rattle.file_calls.proofs.carry_out_call.Statement.{statement}
 use Rattle.file_calls.proofs.carry_out_call.Tie as tie
-use Rattle.file_calls.proofs.carry_out_call.Reads as reads
-use Rattle.file_calls.proofs.carry_out_call.Lts as lts
-use Rattle.calls_reader.proofs.code_at.Reads as code-at-reads
-use Rattle.file_calls.proofs.consolidation.Reads as consolidation-reads
-use Rattle.file_calls.proofs.deposit_receipt.Reads as deposit-receipt-reads
-use Rattle.file_calls.proofs.penalty.Reads as penalty-reads
-use Rattle.file_calls.proofs.reward.Reads as reward-reads
-use Rattle.file_calls.proofs.turn.Reads as turn-reads
-use Rattle.file_calls.proofs.voluntary_exit.Reads as voluntary-exit-reads
-use Rattle.file_calls.proofs.withdrawal_request.Reads as withdrawal-request-reads
-use Rattle.file_calls.proofs.withdrawals.Reads as withdrawals-reads
 
--- src/lib.rt:365:9
 code-at-requires : tie.Need-code-at-requires
 code-at-requires c κs = search needs
 
--- src/lib.rt:367:9
 reward-requires : tie.Need-reward-requires
 reward-requires c κs =
     let h = c .before .before .before .before .before .before .before .before .before .before .before .before .before
@@ -32,31 +19,24 @@ reward-requires c κs =
       ),
     )
 
--- src/lib.rt:367:9
 same-length : tie.Need-same-length
 same-length c = search needs
 
--- src/lib.rt:367:9
 same-length-2 : tie.Need-same-length-2
 same-length-2 c = search needs
 
--- src/lib.rt:367:9
 same-length-3 : tie.Need-same-length-3
 same-length-3 c = search needs
 
--- src/lib.rt:367:9
 same-length-4 : tie.Need-same-length-4
 same-length-4 c = search needs
 
--- src/lib.rt:367:9
 same-length-5 : tie.Need-same-length-5
 same-length-5 c = search needs
 
--- src/lib.rt:367:9
 returns : tie.Need-returns
 returns c = c .before .before .reward .ensures
 
--- src/lib.rt:380:9
 penalty-requires : tie.Need-penalty-requires
 penalty-requires c κs =
     let h = c .before .before .before .before .before .before .before .before .before .before .before .before .before
@@ -69,31 +49,24 @@ penalty-requires c κs =
       ),
     )
 
--- src/lib.rt:380:9
 same-length-6 : tie.Need-same-length-6
 same-length-6 c = search needs
 
--- src/lib.rt:380:9
 same-length-7 : tie.Need-same-length-7
 same-length-7 c = search needs
 
--- src/lib.rt:380:9
 same-length-8 : tie.Need-same-length-8
 same-length-8 c = search needs
 
--- src/lib.rt:380:9
 same-length-9 : tie.Need-same-length-9
 same-length-9 c = search needs
 
--- src/lib.rt:380:9
 same-length-10 : tie.Need-same-length-10
 same-length-10 c = search needs
 
--- src/lib.rt:380:9
 returns-2 : tie.Need-returns-2
 returns-2 c = c .before .before .penalty .ensures
 
--- src/lib.rt:393:9
 deposit-receipt-requires : tie.Need-deposit-receipt-requires
 deposit-receipt-requires c κs =
     let h = c .before .before .before .before .before .before .before .before .before .before .before .before .before
@@ -106,31 +79,24 @@ deposit-receipt-requires c κs =
       ),
     )
 
--- src/lib.rt:393:9
 same-length-11 : tie.Need-same-length-11
 same-length-11 c = search needs
 
--- src/lib.rt:393:9
 same-length-12 : tie.Need-same-length-12
 same-length-12 c = search needs
 
--- src/lib.rt:393:9
 same-length-13 : tie.Need-same-length-13
 same-length-13 c = search needs
 
--- src/lib.rt:393:9
 same-length-14 : tie.Need-same-length-14
 same-length-14 c = search needs
 
--- src/lib.rt:393:9
 same-length-15 : tie.Need-same-length-15
 same-length-15 c = search needs
 
--- src/lib.rt:393:9
 returns-3 : tie.Need-returns-3
 returns-3 c = c .before .before .before .before .before .before .deposit-receipt .ensures
 
--- src/lib.rt:406:9
 voluntary-exit-requires : tie.Need-voluntary-exit-requires
 voluntary-exit-requires c κs =
     let h = c .before .before .before .before .before .before .before .before .before .before .before .before .before
@@ -143,31 +109,24 @@ voluntary-exit-requires c κs =
       ),
     )
 
--- src/lib.rt:406:9
 same-length-16 : tie.Need-same-length-16
 same-length-16 c = search needs
 
--- src/lib.rt:406:9
 same-length-17 : tie.Need-same-length-17
 same-length-17 c = search needs
 
--- src/lib.rt:406:9
 same-length-18 : tie.Need-same-length-18
 same-length-18 c = search needs
 
--- src/lib.rt:406:9
 same-length-19 : tie.Need-same-length-19
 same-length-19 c = search needs
 
--- src/lib.rt:406:9
 same-length-20 : tie.Need-same-length-20
 same-length-20 c = search needs
 
--- src/lib.rt:406:9
 returns-4 : tie.Need-returns-4
 returns-4 c = c .before .before .voluntary-exit .ensures
 
--- src/lib.rt:419:9
 withdrawal-request-requires : tie.Need-withdrawal-request-requires
 withdrawal-request-requires c κs =
     let h = c .before .before .before .before .before .before .before .before .before .before .before .before .before
@@ -180,31 +139,24 @@ withdrawal-request-requires c κs =
       ),
     )
 
--- src/lib.rt:419:9
 same-length-21 : tie.Need-same-length-21
 same-length-21 c = search needs
 
--- src/lib.rt:419:9
 same-length-22 : tie.Need-same-length-22
 same-length-22 c = search needs
 
--- src/lib.rt:419:9
 same-length-23 : tie.Need-same-length-23
 same-length-23 c = search needs
 
--- src/lib.rt:419:9
 same-length-24 : tie.Need-same-length-24
 same-length-24 c = search needs
 
--- src/lib.rt:419:9
 same-length-25 : tie.Need-same-length-25
 same-length-25 c = search needs
 
--- src/lib.rt:419:9
 returns-5 : tie.Need-returns-5
 returns-5 c = c .before .before .before .before .withdrawal-request .ensures
 
--- src/lib.rt:432:9
 consolidation-requires : tie.Need-consolidation-requires
 consolidation-requires c κs =
     let h = c .before .before .before .before .before .before .before .before .before .before .before .before .before
@@ -217,31 +169,24 @@ consolidation-requires c κs =
       ),
     )
 
--- src/lib.rt:432:9
 same-length-26 : tie.Need-same-length-26
 same-length-26 c = search needs
 
--- src/lib.rt:432:9
 same-length-27 : tie.Need-same-length-27
 same-length-27 c = search needs
 
--- src/lib.rt:432:9
 same-length-28 : tie.Need-same-length-28
 same-length-28 c = search needs
 
--- src/lib.rt:432:9
 same-length-29 : tie.Need-same-length-29
 same-length-29 c = search needs
 
--- src/lib.rt:432:9
 same-length-30 : tie.Need-same-length-30
 same-length-30 c = search needs
 
--- src/lib.rt:432:9
 returns-6 : tie.Need-returns-6
 returns-6 c = c .before .before .before .before .consolidation .ensures
 
--- src/lib.rt:445:9
 turn-requires : tie.Need-turn-requires
 turn-requires c κs =
     let h = c .before .before .before .before .before .before .before .before .before .before .before .before .before
@@ -254,31 +199,24 @@ turn-requires c κs =
       ),
     )
 
--- src/lib.rt:445:9
 same-length-31 : tie.Need-same-length-31
 same-length-31 c = search needs
 
--- src/lib.rt:445:9
 same-length-32 : tie.Need-same-length-32
 same-length-32 c = search needs
 
--- src/lib.rt:445:9
 same-length-33 : tie.Need-same-length-33
 same-length-33 c = search needs
 
--- src/lib.rt:445:9
 same-length-34 : tie.Need-same-length-34
 same-length-34 c = search needs
 
--- src/lib.rt:445:9
 same-length-35 : tie.Need-same-length-35
 same-length-35 c = search needs
 
--- src/lib.rt:445:9
 returns-7 : tie.Need-returns-7
 returns-7 c = c .before .before .before .before .before .before .before .before .turn .ensures
 
--- src/lib.rt:457:5
 withdrawals-requires : tie.Need-withdrawals-requires
 withdrawals-requires c κs =
     let second = c .before .before .before .before .before .before .before in
@@ -292,27 +230,21 @@ withdrawals-requires c κs =
     .before .before .before .before .before .if7 .left) in
     (h .0, (h .1, last))
 
--- src/lib.rt:341:1
 same-length-36 : tie.Need-same-length-36
 same-length-36 c = search needs
 
--- src/lib.rt:341:1
 same-length-37 : tie.Need-same-length-37
 same-length-37 c = search needs
 
--- src/lib.rt:341:1
 same-length-38 : tie.Need-same-length-38
 same-length-38 c = search needs
 
--- src/lib.rt:341:1
 same-length-39 : tie.Need-same-length-39
 same-length-39 c = search needs
 
--- src/lib.rt:341:1
 same-length-40 : tie.Need-same-length-40
 same-length-40 c = search needs
 
--- src/lib.rt:341:1
 returns-8 : tie.Need-returns-8
 returns-8 c = c .before .before .before .before .withdrawals .ensures
 

@@ -3,26 +3,18 @@ use borrow.Author.Needs.{needs}
 use Rattle.file_calls.specs.Laws.{called-as}
 use Rattle.file_calls.proofs.penalty.Statement.{statement}
 use Rattle.file_calls.proofs.penalty.Tie as tie
-use Rattle.file_calls.proofs.penalty.Reads as reads
-use Rattle.file_calls.proofs.penalty.Lts as lts
-use Rattle.calls_reader.proofs.amount_at.Reads as amount-at-reads
-use Rattle.rewards.proofs.penalty.penalty_accepted.Reads as penalty-accepted-reads
 
--- src/lib.rt:78:9
 amount-at-requires : tie.Need-amount-at-requires
 amount-at-requires c κs =
     let h = c .before .before .before .before .before .before .pre .1 in
     (h .0 .near, (h .0 .good, (omega (arith, h .1), omega (arith, h .1))))
 
--- src/lib.rt:79:5
 penalty-accepted-requires : tie.Need-penalty-accepted-requires
 penalty-accepted-requires c κs = search needs
 
--- src/lib.rt:53:1
 same-length : tie.Need-same-length
 same-length c = search needs
 
--- src/lib.rt:53:1
 returns : tie.Need-returns
 returns c =
     called-as (c .before .before .before .before .amount-at .ensures .1 (c .before .before .before .before .before

@@ -2,31 +2,22 @@ use borrow.Author.Needs.{needs}
 use Rattle.file_calls.specs.Laws.{called-as, turn-there}
 use Rattle.file_calls.proofs.turn.Statement.{statement}
 use Rattle.file_calls.proofs.turn.Tie as tie
-use Rattle.file_calls.proofs.turn.Reads as reads
-use Rattle.file_calls.proofs.turn.Lts as lts
-use Rattle.epoch_turns.proofs.turn_accepted.Reads as turn-accepted-reads
 
--- src/lib.rt:289:5
 turn-accepted-requires : tie.Need-turn-accepted-requires
 turn-accepted-requires c κs = search needs
 
--- src/lib.rt:264:1
 same-length : tie.Need-same-length
 same-length c = search needs
 
--- src/lib.rt:264:1
 same-length-2 : tie.Need-same-length-2
 same-length-2 c = search needs
 
--- src/lib.rt:264:1
 same-length-3 : tie.Need-same-length-3
 same-length-3 c = search needs
 
--- src/lib.rt:264:1
 same-length-4 : tie.Need-same-length-4
 same-length-4 c = search needs
 
--- src/lib.rt:264:1
 returns : tie.Need-returns
 returns c =
     called-as (turn-there (c .before .before .before .before .before .before .before .before .before .before .before

@@ -2,24 +2,16 @@ use borrow.Author.Needs.{needs}
 use Rattle.file_calls.specs.Laws.{called-as}
 use Rattle.file_calls.proofs.voluntary_exit.Statement.{statement}
 use Rattle.file_calls.proofs.voluntary_exit.Tie as tie
-use Rattle.file_calls.proofs.voluntary_exit.Reads as reads
-use Rattle.file_calls.proofs.voluntary_exit.Lts as lts
-use Rattle.exit_operations.proofs.process_voluntary_exit.Reads as process-voluntary-exit-reads
-use Rattle.calls_reader.proofs.exit_at.Reads as exit-at-reads
 
--- src/lib.rt:163:9
 exit-at-requires : tie.Need-exit-at-requires
 exit-at-requires c κs = search needs
 
--- src/lib.rt:164:5
 process-voluntary-exit-requires : tie.Need-process-voluntary-exit-requires
 process-voluntary-exit-requires c κs = search needs
 
--- src/lib.rt:138:1
 same-length : tie.Need-same-length
 same-length c = search needs
 
--- src/lib.rt:138:1
 returns : tie.Need-returns
 returns c = called-as (c .before .before .before .before .exit-at .ensures) (c .before .before
     .process-voluntary-exit .ensures)

@@ -2,30 +2,22 @@ use borrow.Author.Needs.{needs}
 use Rattle.file_calls.specs.Laws.{called-as}
 use Rattle.file_calls.proofs.withdrawal_request.Statement.{statement}
 use Rattle.file_calls.proofs.withdrawal_request.Tie as tie
-use Rattle.file_calls.proofs.withdrawal_request.Reads as reads
-use Rattle.file_calls.proofs.withdrawal_request.Lts as lts
 use Rattle.request_operations.proofs.process_execution_layer_withdrawal_request.Reads as
     process-execution-layer-withdrawal-request-reads
-use Rattle.calls_reader.proofs.request_at.Reads as request-at-reads
 
--- src/lib.rt:204:9
 request-at-requires : tie.Need-request-at-requires
 request-at-requires c κs = search needs
 
--- src/lib.rt:207:5
 process-execution-layer-withdrawal-request-requires :
     tie.Need-process-execution-layer-withdrawal-request-requires
 process-execution-layer-withdrawal-request-requires c κs = search needs
 
--- src/lib.rt:179:1
 same-length : tie.Need-same-length
 same-length c = search needs
 
--- src/lib.rt:179:1
 same-length-2 : tie.Need-same-length-2
 same-length-2 c = search needs
 
--- src/lib.rt:179:1
 returns : tie.Need-returns
 returns c =
     called-as (c .before .before .before .before .before .before .before .before .before .request-at .ensures) (c

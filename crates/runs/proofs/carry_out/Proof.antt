@@ -5,96 +5,69 @@ use borrow.Author.Needs.{needs}
 use Rattle.runs.specs.Answers.{calls-there, books-refused, file-refused, results-refused, all-done}
 use Rattle.runs.proofs.carry_out.Statement.{statement}
 use Rattle.runs.proofs.carry_out.Tie as tie
-use Rattle.runs.proofs.carry_out.Reads as reads
-use Rattle.runs.proofs.carry_out.Lts as lts
-use Rattle.acceptance.proofs.handed.Reads as handed-reads
-use Rattle.calls_reader.proofs.calls_count.Reads as calls-count-reads
-use Rattle.calls_reader.proofs.calls_file_ok.Reads as calls-file-ok-reads
-use Rattle.runs.proofs.carry_out_calls.Reads as carry-out-calls-reads
 
--- src/lib.rt:97:9
 handed-requires : tie.Need-handed-requires
 handed-requires c κs = search needs
 
--- src/lib.rt:107:9
 same-length : tie.Need-same-length
 same-length c = search needs
 
--- src/lib.rt:107:9
 same-length-2 : tie.Need-same-length-2
 same-length-2 c = search needs
 
--- src/lib.rt:107:9
 same-length-3 : tie.Need-same-length-3
 same-length-3 c = search needs
 
--- src/lib.rt:107:9
 same-length-4 : tie.Need-same-length-4
 same-length-4 c = search needs
 
--- src/lib.rt:107:9
 same-length-5 : tie.Need-same-length-5
 same-length-5 c = search needs
 
--- src/lib.rt:107:9
 returns : tie.Need-returns
 returns c = books-refused _ _ _ _ _ _ (c .before .handed .ensures) (c .if1 .taken)
 
--- src/lib.rt:113:9
 calls-file-ok-requires : tie.Need-calls-file-ok-requires
 calls-file-ok-requires c κs = search needs
 
--- src/lib.rt:114:9
 same-length-6 : tie.Need-same-length-6
 same-length-6 c = search needs
 
--- src/lib.rt:114:9
 same-length-7 : tie.Need-same-length-7
 same-length-7 c = search needs
 
--- src/lib.rt:114:9
 same-length-8 : tie.Need-same-length-8
 same-length-8 c = search needs
 
--- src/lib.rt:114:9
 same-length-9 : tie.Need-same-length-9
 same-length-9 c = search needs
 
--- src/lib.rt:114:9
 same-length-10 : tie.Need-same-length-10
 same-length-10 c = search needs
 
--- src/lib.rt:114:9
 returns-2 : tie.Need-returns-2
 returns-2 c =
     file-refused _ _ _ _ _ (sym (c .before .before .before .handed .ensures) ∙ c .before .before .if1 .left)
     (sym (c .before .calls-file-ok .ensures) ∙ not-true _ (c .if2 .taken))
 
--- src/lib.rt:120:9
 calls-count-requires : tie.Need-calls-count-requires
 calls-count-requires c κs = search needs
 
--- src/lib.rt:122:9
 same-length-11 : tie.Need-same-length-11
 same-length-11 c = search needs
 
--- src/lib.rt:122:9
 same-length-12 : tie.Need-same-length-12
 same-length-12 c = search needs
 
--- src/lib.rt:122:9
 same-length-13 : tie.Need-same-length-13
 same-length-13 c = search needs
 
--- src/lib.rt:122:9
 same-length-14 : tie.Need-same-length-14
 same-length-14 c = search needs
 
--- src/lib.rt:122:9
 same-length-15 : tie.Need-same-length-15
 same-length-15 c = search needs
 
--- src/lib.rt:122:9
 returns-3 : tie.Need-returns-3
 returns-3 c =
     let h = sym (c .before .before .before .before .before .handed .ensures) ∙ c .before .before .before .before .if1
@@ -102,7 +75,6 @@ returns-3 c =
     let good = sym (c .before .before .before .calls-file-ok .ensures) ∙ not-false _ (c .before .before .if2 .left) in
     results-refused _ _ _ _ _ h good (c .before .calls-count .ensures) (c .if3 .taken)
 
--- src/lib.rt:128:9
 carry-out-calls-requires : tie.Need-carry-out-calls-requires
 carry-out-calls-requires c κs =
     let h = sym (c .before .before .before .before .before .before .before .before .before .before .before .handed
@@ -117,31 +89,24 @@ carry-out-calls-requires c κs =
       ),
     )
 
--- src/lib.rt:77:1
 same-length-16 : tie.Need-same-length-16
 same-length-16 c = search needs
 
--- src/lib.rt:77:1
 same-length-17 : tie.Need-same-length-17
 same-length-17 c = search needs
 
--- src/lib.rt:77:1
 same-length-18 : tie.Need-same-length-18
 same-length-18 c = search needs
 
--- src/lib.rt:77:1
 same-length-19 : tie.Need-same-length-19
 same-length-19 c = search needs
 
--- src/lib.rt:77:1
 same-length-20 : tie.Need-same-length-20
 same-length-20 c = search needs
 
--- src/lib.rt:77:1
 same-length-21 : tie.Need-same-length-21
 same-length-21 c = search needs
 
--- src/lib.rt:77:1
 returns-4 : tie.Need-returns-4
 returns-4 c =
     let h = sym (c .before .before .before .before .before .before .before .before .before .before .before .before

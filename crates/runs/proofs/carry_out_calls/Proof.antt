@@ -7,10 +7,6 @@ use Rattle.runs.specs.Steps.{Carrying, carrying-none, carrying-call, car
 use Rattle.runs.specs.Steps.{carrying-more, carrying-end}
 use Rattle.runs.proofs.carry_out_calls.Statement.{statement}
 use Rattle.runs.proofs.carry_out_calls.Tie as tie
-use Rattle.runs.proofs.carry_out_calls.Reads as reads
-use Rattle.runs.proofs.carry_out_calls.Lts as lts
-use Rattle.calls_reader.proofs.next_call.Reads as next-call-reads
-use Rattle.runs.proofs.lines.carry_out_line.Reads as carry-out-line-reads
 
 abbrev Inv-loop : tie.InvT-loop
 Inv-loop settings identities₀ validators₀ deposits₀ partials₀ consolidations₀ file n results₀ after₀ k₀ i₀
@@ -23,12 +19,10 @@ abbrev μ-loop : tie.MeasureT-loop
 μ-loop settings identities₀ validators₀ deposits₀ partials₀ consolidations₀ file n results₀ after₀ k₀ i₀
     identities validators deposits partials consolidations results after k i = n - i
 
--- src/lib.rt:55:5
 loop-holds : tie.Need-loop-holds Inv-loop μ-loop
 loop-holds c = carrying-none (c .before .before .before .before .before .before .before .pre .0) (c .before .before
     .before .before .before .before .before .pre .1 .0)
 
--- src/lib.rt:56:9
 carry-out-line-requires : tie.Need-carry-out-line-requires Inv-loop μ-loop
 carry-out-line-requires c κs =
     let inv = c .before .before .before .before .before .before .before .loop .inv in
@@ -37,7 +31,6 @@ carry-out-line-requires c κs =
     let more = c .before .before .before .before .before .before .loop-test .taken in
     (inv .running .accepted, (carrying-call inv (h .1 .0 .most) more, carrying-room inv more (h .1 .1)))
 
--- src/lib.rt:69:9
 next-call-requires : tie.Need-next-call-requires Inv-loop μ-loop
 next-call-requires c κs =
     let there = carrying-call (c .before .before .before .before .before .before .before .before .before .before
@@ -48,7 +41,6 @@ next-call-requires c κs =
     .before .before .before .before .before .before .loop-test .taken) in
     (there .near, there .good)
 
--- src/lib.rt:70:9
 add-i : tie.Need-add-i Inv-loop μ-loop
 add-i c = omega (
   arith,
@@ -60,7 +52,6 @@ add-i c = omega (
       .0 .most,
 )
 
--- src/lib.rt:55:5
 loop-less : tie.Need-loop-less Inv-loop μ-loop
 loop-less c = omega (
   arith,
@@ -68,7 +59,6 @@ loop-less c = omega (
       .before .before .before .before .before .before .before .before .before .loop-test .taken,
 )
 
--- src/lib.rt:55:5
 loop-again : tie.Need-loop-again Inv-loop μ-loop
 loop-again c =
     let line = c .before .before .before .before .before .before .before .before .before .before .before .before
@@ -88,31 +78,24 @@ loop-again c =
     })
     (c .next-call .ensures .0) (c .next-call .ensures .1)
 
--- src/lib.rt:25:1
 same-length : tie.Need-same-length Inv-loop μ-loop
 same-length c = search needs
 
--- src/lib.rt:25:1
 same-length-2 : tie.Need-same-length-2 Inv-loop μ-loop
 same-length-2 c = search needs
 
--- src/lib.rt:25:1
 same-length-3 : tie.Need-same-length-3 Inv-loop μ-loop
 same-length-3 c = search needs
 
--- src/lib.rt:25:1
 same-length-4 : tie.Need-same-length-4 Inv-loop μ-loop
 same-length-4 c = search needs
 
--- src/lib.rt:25:1
 same-length-5 : tie.Need-same-length-5 Inv-loop μ-loop
 same-length-5 c = search needs
 
--- src/lib.rt:25:1
 same-length-6 : tie.Need-same-length-6 Inv-loop μ-loop
 same-length-6 c = search needs
 
--- src/lib.rt:25:1
 returns : tie.Need-returns Inv-loop μ-loop
 returns c = carrying-end (c .before .loop .inv) (omega arith) (c .before .before .before .before .before .before
     .before .before .before .pre .1 .1)

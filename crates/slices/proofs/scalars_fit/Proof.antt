@@ -3,10 +3,7 @@ use Rattle.lists.specs.Base.{all}
 use Rattle.lists.specs.Laws.{and-true}
 use Rattle.slices.proofs.scalars_fit.Statement.{statement}
 use Rattle.slices.proofs.scalars_fit.Tie as tie
-use Rattle.slices.proofs.scalars_fit.Reads as reads
-use Rattle.slices.proofs.scalars_fit.Lts as lts
 
--- src/lib.rt:135:1
 returns : tie.Need-returns
 unfolding all
 returns c = sym (and-true _)

@@ -7,9 +7,6 @@ use borrow.Author.Needs.{needs}
 use Rattle.slices.proofs.Copy.{Front, front-none, front-more}
 use Rattle.slices.proofs.store_scalars.Statement.{statement}
 use Rattle.slices.proofs.store_scalars.Tie as tie
-use Rattle.slices.proofs.store_scalars.Reads as reads
-use Rattle.slices.proofs.store_scalars.Lts as lts
-use Rattle.slices.proofs.scalar_numbers.Reads as scalar-numbers-reads
 
 abbrev Inv-loop : tie.InvT-loop
 Inv-loop scalars₀ numbers j₀ scalars j =
@@ -18,49 +15,38 @@ Inv-loop scalars₀ numbers j₀ scalars j =
 abbrev μ-loop : tie.MeasureT-loop
 μ-loop scalars₀ numbers j₀ scalars j = 13 - j
 
--- src/lib.rt:116:19
 scalar-numbers-requires : tie.Need-scalar-numbers-requires Inv-loop μ-loop
 scalar-numbers-requires c κs = search needs
 
--- src/lib.rt:118:5
 loop-holds : tie.Need-loop-holds Inv-loop μ-loop
 loop-holds c = (omega arith, front-none)
 
--- src/lib.rt:119:22
 mul-scalars : tie.Need-mul-scalars Inv-loop μ-loop
 mul-scalars c = omega arith
 
--- src/lib.rt:119:22
 array-read-scalars : tie.Need-array-read-scalars Inv-loop μ-loop
 array-read-scalars c = omega arith
 
--- src/lib.rt:119:9
 mul-scalars-2 : tie.Need-mul-scalars-2 Inv-loop μ-loop
 mul-scalars-2 c = omega arith
 
--- src/lib.rt:119:9
 slice-write-scalars : tie.Need-slice-write-scalars Inv-loop μ-loop
 slice-write-scalars c = omega (arith, c .before .loop .inv .1 .size)
 
--- src/lib.rt:120:9
 add-j : tie.Need-add-j Inv-loop μ-loop
 add-j c = omega arith
 
--- src/lib.rt:118:5
 loop-less : tie.Need-loop-less Inv-loop μ-loop
 loop-less c = omega arith
 
--- src/lib.rt:118:5
 loop-again : tie.Need-loop-again Inv-loop μ-loop
 loop-again c =
     let l = c .before .loop in
     (omega arith, front-more (omega arith) refl (l .inv .1))
 
--- src/lib.rt:112:1
 same-length : tie.Need-same-length Inv-loop μ-loop
 same-length c = c .before .loop .inv .1 .size
 
--- src/lib.rt:112:1
 returns : tie.Need-returns Inv-loop μ-loop
 unfolding rows
 returns c =

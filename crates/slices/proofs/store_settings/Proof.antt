@@ -7,9 +7,6 @@ use borrow.Author.Needs.{needs}
 use Rattle.slices.proofs.Copy.{Front, front-none, front-more}
 use Rattle.slices.proofs.store_settings.Statement.{statement}
 use Rattle.slices.proofs.store_settings.Tie as tie
-use Rattle.slices.proofs.store_settings.Reads as reads
-use Rattle.slices.proofs.store_settings.Lts as lts
-use Rattle.slices.proofs.setting_numbers.Reads as setting-numbers-reads
 
 abbrev Inv-loop : tie.InvT-loop
 Inv-loop settings₀ numbers j₀ settings j =

@@ -1,7 +1,7 @@
 -- `table_text::put_decimal` meets its contract. The loop has the digits of the quotient left.
 use borrow.Author.Needs.{needs}
 use mathlib.Core.Path.{_≡_, _∙_}
-use Prim.Native.Nat.{_-_, _≤_}
+use Prim.Native.Nat.{_≤_}
 use lib.ListN.{length, length-set}
 use lib.Seq.{sets}
 use Rattle.table_text.specs.Text.{decimal}

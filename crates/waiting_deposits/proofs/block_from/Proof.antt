@@ -15,24 +15,24 @@ Inv-loop deposits from m list₀ count k₀ list k =
 abbrev μ-loop : tie.MeasureT-loop
 μ-loop deposits from m list₀ count k₀ list k = count - k
 
-sub-min : tie.Need-sub-min Inv-loop μ-loop
-sub-min c = search needs
+sub-min-usize : tie.Need-sub-min-usize Inv-loop μ-loop
+sub-min-usize c = search needs
 
-min-requires : tie.Need-min-requires Inv-loop μ-loop
-min-requires c κs = search needs
+min-usize-requires : tie.Need-min-usize-requires Inv-loop μ-loop
+min-usize-requires c κs = search needs
 
 loop-holds : tie.Need-loop-holds Inv-loop μ-loop
 loop-holds c = (reading-none _ _ refl, omega arith)
 
 add-deposit-at : tie.Need-add-deposit-at Inv-loop μ-loop
-add-deposit-at c = omega (arith, c .before .before .min .ensures)
+add-deposit-at c = omega (arith, c .before .before .min-usize .ensures)
 
 deposit-at-requires : tie.Need-deposit-at-requires Inv-loop μ-loop
-deposit-at-requires c κs = omega (arith, c .before .before .min .ensures)
+deposit-at-requires c κs = omega (arith, c .before .before .min-usize .ensures)
 
 -- the block has room
 within : (c : tie.After-deposit-at Inv-loop μ-loop) → c .before .before .loop .k < 16
-within c = omega (arith, c .before .before .before .min .ensures)
+within c = omega (arith, c .before .before .before .min-usize .ensures)
 
 mul-list : tie.Need-mul-list Inv-loop μ-loop
 mul-list c = omega (arith, within c)
@@ -55,8 +55,8 @@ loop-again c =
 returns : tie.Need-returns Inv-loop μ-loop
 returns c =
     let l = c .before .loop in
-    let whole : l .k ≡ c .before .before .min .result = omega arith in
-    record { count = c .before .before .min .ensures; records = rw whole at (l .inv .0 .records) }
+    let whole : l .k ≡ c .before .before .min-usize .result = omega arith in
+    record { count = c .before .before .min-usize .ensures; records = rw whole at (l .inv .0 .records) }
 
 pub block-from-spec : {M : Type 1} → statement M
 block-from-spec =
@@ -64,8 +64,8 @@ block-from-spec =
     (tie.spec
     Inv-loop
     μ-loop
-    sub-min
-    min-requires
+    sub-min-usize
+    min-usize-requires
     loop-holds
     add-deposit-at
     deposit-at-requires

@@ -6,11 +6,6 @@ use Rattle.epoch_turns.specs.Epoch.{room-true, books-true, consolidations-over,
 use Rattle.epoch_turns.specs.Epoch.{registry-there, consolidations-there, queue-there}
 use Rattle.electra.proofs.consolidations.process_pending_consolidations.Statement.{statement}
 use Rattle.electra.proofs.consolidations.process_pending_consolidations.Tie as tie
-use Rattle.electra.proofs.consolidations.process_pending_consolidations.Reads as reads
-use Rattle.electra.proofs.consolidations.process_pending_consolidations.Lts as lts
-use Rattle.acceptance.proofs.handed.Reads as handed-reads
-use Rattle.pending_consolidations.proofs.process_pending_consolidations.Reads as process-pending-consolidations-reads
-use Rattle.queue_room.proofs.consolidations_fit.Reads as consolidations-fit-reads
 
 handed-requires : tie.Need-handed-requires
 handed-requires c κs = search needs

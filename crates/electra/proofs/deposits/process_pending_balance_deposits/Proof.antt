@@ -4,11 +4,6 @@ use Rattle.call_answers.specs.Called.{handed-refused}
 use Rattle.epoch_turns.specs.Epoch.{settings-true, room-true, books-true, registry-known, deposits-done}
 use Rattle.electra.proofs.deposits.process_pending_balance_deposits.Statement.{statement}
 use Rattle.electra.proofs.deposits.process_pending_balance_deposits.Tie as tie
-use Rattle.electra.proofs.deposits.process_pending_balance_deposits.Reads as reads
-use Rattle.electra.proofs.deposits.process_pending_balance_deposits.Lts as lts
-use Rattle.acceptance.proofs.handed.Reads as handed-reads
-use Rattle.helpers.proofs.churn.get_activation_exit_churn_limit.Reads as get-activation-exit-churn-limit-reads
-use Rattle.pending_deposits.proofs.process_pending_balance_deposits.Reads as process-pending-balance-deposits-reads
 
 handed-requires : tie.Need-handed-requires
 handed-requires c κs = search needs

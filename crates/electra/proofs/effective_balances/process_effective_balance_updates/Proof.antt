@@ -4,9 +4,6 @@ use Rattle.call_answers.specs.Called.{handed-refused}
 use Rattle.epoch_turns.specs.Epoch.{settings-true, updates-known, effective-done}
 use Rattle.electra.proofs.effective_balances.process_effective_balance_updates.Statement.{statement}
 use Rattle.electra.proofs.effective_balances.process_effective_balance_updates.Tie as tie
-use Rattle.electra.proofs.effective_balances.process_effective_balance_updates.Reads as reads
-use Rattle.electra.proofs.effective_balances.process_effective_balance_updates.Lts as lts
-use Rattle.acceptance.proofs.handed.Reads as handed-reads
 use Rattle.epoch_processing.proofs.effective_balances.process_effective_balance_updates.Reads as
     process-effective-balance-updates-reads
 

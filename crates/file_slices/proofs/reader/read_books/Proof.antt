@@ -34,8 +34,14 @@ same-length-2 c = search needs
 
 returns : tie.Need-returns
 returns c =
-    let s = c .before .before .before .before .before .before .before .before .before .before .before .before .before in
-    read-unfit (s .args .file .now) (lent s) (s .args .settings .now) (s .args .scalars .now) (c .before .before .read-fits .ensures) (c .before .if1 .taken) (c .unfit-answer .ensures)
+    let branch = c .before in
+    let at-read-fits = branch .before in
+    let start = at-read-fits .before .before .before .before .before .before .before .before .before .before .before
+    in
+    read-unfit (start .args .file .now)
+    (lent start)
+    (start .args .settings .now) (start .args .scalars .now) (at-read-fits .read-fits .ensures) (branch .if1 .taken)
+    (c .unfit-answer .ensures)
 
 read-books-requires : tie.Need-read-books-requires
 read-books-requires c κs = search needs
@@ -63,18 +69,37 @@ same-length-9 c = search needs
 
 returns-2 : tie.Need-returns-2
 returns-2 c =
-    let s = c .before .before .before .before .before .before .before .before .before .before .before .before .before .before .before .before .before .before .before .before .before .before .before .before .before .before .before .before .before .before in
-    read-refused (s .args .file .now) (lent s) (s .args .settings .now) (s .args .scalars .now) (c .before .before .before .before .before .before .before .before .before .before .before .before .before .before .before .before .before .before .before .read-fits .ensures) (c .before .before .before .before .before .before .before .before .before .before .before .before .before .before .before .before .before .before .if1 .left) (c .before .before .before .before .before .before .before .before .before .before .before .before .read-books .ensures) (c .if2 .taken)
+    let at-read-books = c .before .before .before .before .before .before .before .before .before .before .before
+    .before in
+    let branch = at-read-books .before .before .before .before .before .before in
+    let at-read-fits = branch .before in
+    let start = at-read-fits .before .before .before .before .before .before .before .before .before .before .before
+    in
+    read-refused (start .args .file .now)
+    (lent start)
+    (start .args .settings .now) (start .args .scalars .now) (at-read-fits .read-fits .ensures) (branch .if1 .left)
+    (at-read-books .read-books .ensures) (c .if2 .taken)
 
 store-settings-requires : tie.Need-store-settings-requires
 store-settings-requires c κs =
-    let s = c .before .before .before .before .before .before .before .before .before .before .before .before .before .before .before .before .before .before .before .before .before .before .before .before .before .before .before .before .before .before .before .before .before in
-    leb-true 19 (length (s .args .settings .now)) (fit-test (s .args .scalars .now) (others s) (c .before .before .before .before .before .before .before .before .before .before .before .before .before .before .before .before .before .before .before .before .before .before .read-fits .ensures) (c .before .before .before .before .before .before .before .before .before .before .before .before .before .before .before .before .before .before .before .before .before .if1 .left) 0)
+    let branch = c .before .before .before .before .before .before .before .before .before .before .before .before
+    .before .before .before .before .before .before .before .before .before in
+    let at-read-fits = branch .before in
+    let start = at-read-fits .before .before .before .before .before .before .before .before .before .before .before
+    in
+    leb-true 19 (length (start .args .settings .now))
+    (fit-test (start .args .scalars .now) (others start) (at-read-fits .read-fits .ensures) (branch .if1 .left) 0)
 
 store-scalars-requires : tie.Need-store-scalars-requires
 store-scalars-requires c κs =
-    let s = c .before .before .before .before .before .before .before .before .before .before .before .before .before .before .before .before .before .before .before .before .before .before .before .before .before .before .before .before .before .before .before .before .before .before .before .before .before in
-    fit-room (s .args .scalars .now) (others s) (c .before .before .before .before .before .before .before .before .before .before .before .before .before .before .before .before .before .before .before .before .before .before .before .before .before .before .read-fits .ensures) (c .before .before .before .before .before .before .before .before .before .before .before .before .before .before .before .before .before .before .before .before .before .before .before .before .before .if1 .left)
+    let branch = c .before .before .before .before .before .before .before .before .before .before .before .before
+    .before .before .before .before .before .before .before .before .before .before .before .before .before in
+    let at-read-fits = branch .before in
+    let start = at-read-fits .before .before .before .before .before .before .before .before .before .before .before
+    in
+    fit-room (start .args .scalars .now)
+    (others start)
+    (at-read-fits .read-fits .ensures) (branch .if1 .left)
 
 same-length-10 : tie.Need-same-length-10
 same-length-10 c = search needs
@@ -99,8 +124,20 @@ same-length-16 c = search needs
 
 returns-3 : tie.Need-returns-3
 returns-3 c =
-    let s = c .before .before .before .before .before .before .before .before .before .before .before .before .before .before .before .before .before .before .before .before .before .before .before .before .before .before .before .before .before .before .before .before .before .before .before .before .before .before .before .before in
-    read-done (s .args .file .now) (lent s) (s .args .settings .now) (s .args .scalars .now) (c .before .before .before .before .before .before .before .before .before .before .before .before .before .before .before .before .before .before .before .before .before .before .before .before .before .before .before .before .before .read-fits .ensures) (c .before .before .before .before .before .before .before .before .before .before .before .before .before .before .before .before .before .before .before .before .before .before .before .before .before .before .before .before .if1 .left) (c .before .before .before .before .before .before .before .before .before .before .before .before .before .before .before .before .before .before .before .before .before .before .read-books .ensures) (c .before .before .before .before .before .before .before .before .before .before .if2 .left) (c .before .before .before .before .before .before .store-settings .ensures) (c .before .before .store-scalars .ensures)
+    let at-store-scalars = c .before .before in
+    let at-store-settings = at-store-scalars .before .before .before .before in
+    let branch2 = at-store-settings .before .before .before .before in
+    let at-read-books = branch2 .before .before .before .before .before .before .before .before .before .before
+    .before .before in
+    let branch = at-read-books .before .before .before .before .before .before in
+    let at-read-fits = branch .before in
+    let start = at-read-fits .before .before .before .before .before .before .before .before .before .before .before
+    in
+    read-done (start .args .file .now)
+    (lent start)
+    (start .args .settings .now) (start .args .scalars .now) (at-read-fits .read-fits .ensures) (branch .if1 .left)
+    (at-read-books .read-books .ensures) (branch2 .if2 .left) (at-store-settings .store-settings .ensures)
+    (at-store-scalars .store-scalars .ensures)
 
 pub read-books-spec : {M : Type 1} → statement M
 read-books-spec =

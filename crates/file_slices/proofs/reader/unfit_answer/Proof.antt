@@ -30,7 +30,8 @@ unfit-answer-requires c κs = search needs
 returns-2 : tie.Need-returns-2
 returns-2 c =
     let d = c .before .before in
-    unfit-whole (d .before .before .before .args .file .now) (whole d) (c .before .settings-at .ensures) (c .unfit-answer .ensures)
+    unfit-whole (d .before .before .before .args .file .now) (whole d)
+    (c .before .settings-at .ensures) (c .unfit-answer .ensures)
 
 pub unfit-answer-spec : {M : Type 1} → statement M
 unfit-answer-spec =

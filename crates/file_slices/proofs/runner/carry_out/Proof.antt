@@ -19,12 +19,20 @@ same-length c = search needs
 
 returns : tie.Need-returns
 returns c =
-    let s = c .before .before .before .before .before .before .before .before .before .before .before .before .before .before in
-    carried-unfit (s .args .settings .now) (s .args .scalars .now) (c .before .before .before .before .settings-from .ensures) (c .before .before .scalars-fit .ensures) (c .before .if1 .taken) (c .unfit-answer .ensures)
+    let branch = c .before in
+    let at-scalars-fit = branch .before in
+    let at-settings-from = at-scalars-fit .before .before in
+    let start = at-settings-from .before .before .before .before .before .before .before .before .before .before in
+    carried-unfit (start .args .settings .now) (start .args .scalars .now) (at-settings-from .settings-from .ensures)
+    (at-scalars-fit .scalars-fit .ensures) (branch .if1 .taken) (c .unfit-answer .ensures)
 
 scalars-from-requires : tie.Need-scalars-from-requires
 scalars-from-requires c κs =
-    fit-room (c .before .before .before .before .before .before .before .before .before .before .before .before .before .before .args .scalars .now) [] (c .before .before .scalars-fit .ensures) (c .before .if1 .left)
+    let branch = c .before in
+    let at-scalars-fit = branch .before in
+    let start = at-scalars-fit .before .before .before .before .before .before .before .before .before .before .before
+    .before in
+    fit-room (start .args .scalars .now) [] (at-scalars-fit .scalars-fit .ensures) (branch .if1 .left)
 
 carry-out-requires : tie.Need-carry-out-requires
 carry-out-requires c κs = search needs
@@ -52,12 +60,25 @@ same-length-8 c = search needs
 
 returns-2 : tie.Need-returns-2
 returns-2 c =
-    let s = c .before .before .before .before .before .before .before .before .before .before .before .before .before .before .before .before .before .before .before .before .before .before .before .before .before .before .before .before .before .before .before .before .before .before .before .before in
-    carried-refused (s .args .settings .now) (s .args .scalars .now) (c .before .before .before .before .before .before .before .before .before .before .before .before .before .before .before .before .before .before .before .before .before .before .before .before .before .before .settings-from .ensures) (c .before .before .before .before .before .before .before .before .before .before .before .before .before .before .before .before .before .before .before .before .before .before .before .before .scalars-fit .ensures) (c .before .before .before .before .before .before .before .before .before .before .before .before .before .before .before .before .before .before .before .before .before .before .before .if1 .left) (c .before .before .before .before .before .before .before .before .before .before .before .before .before .before .before .before .before .before .before .before .before .scalars-from .ensures) (c .before .before .before .before .before .before .before .before .before .before .before .before .before .before .carry-out .ensures) (c .if2 .taken)
+    let at-carry-out = c .before .before .before .before .before .before .before .before .before .before .before
+    .before .before .before in
+    let at-scalars-from = at-carry-out .before .before .before .before .before .before .before in
+    let branch = at-scalars-from .before .before in
+    let at-scalars-fit = branch .before in
+    let at-settings-from = at-scalars-fit .before .before in
+    let start = at-settings-from .before .before .before .before .before .before .before .before .before .before in
+    carried-refused (start .args .settings .now) (start .args .scalars .now)
+    (at-settings-from .settings-from .ensures) (at-scalars-fit .scalars-fit .ensures) (branch .if1 .left)
+    (at-scalars-from .scalars-from .ensures) (at-carry-out .carry-out .ensures) (c .if2 .taken)
 
 store-scalars-requires : tie.Need-store-scalars-requires
 store-scalars-requires c κs =
-    fit-room (c .before .before .before .before .before .before .before .before .before .before .before .before .before .before .before .before .before .before .before .before .before .before .before .before .before .before .before .before .before .before .before .before .before .before .before .before .before .before .args .scalars .now) [] (c .before .before .before .before .before .before .before .before .before .before .before .before .before .before .before .before .before .before .before .before .before .before .before .before .before .before .scalars-fit .ensures) (c .before .before .before .before .before .before .before .before .before .before .before .before .before .before .before .before .before .before .before .before .before .before .before .before .before .if1 .left)
+    let branch = c .before .before .before .before .before .before .before .before .before .before .before .before
+    .before .before .before .before .before .before .before .before .before .before .before .before .before in
+    let at-scalars-fit = branch .before in
+    let start = at-scalars-fit .before .before .before .before .before .before .before .before .before .before .before
+    .before in
+    fit-room (start .args .scalars .now) [] (at-scalars-fit .scalars-fit .ensures) (branch .if1 .left)
 
 same-length-9 : tie.Need-same-length-9
 same-length-9 c = search needs
@@ -82,8 +103,18 @@ same-length-15 c = search needs
 
 returns-3 : tie.Need-returns-3
 returns-3 c =
-    let s = c .before .before .before .before .before .before .before .before .before .before .before .before .before .before .before .before .before .before .before .before .before .before .before .before .before .before .before .before .before .before .before .before .before .before .before .before .before .before .before .before .before in
-    carried-done (s .args .settings .now) (s .args .scalars .now) (c .before .before .before .before .before .before .before .before .before .before .before .before .before .before .before .before .before .before .before .before .before .before .before .before .before .before .before .before .before .before .before .settings-from .ensures) (c .before .before .before .before .before .before .before .before .before .before .before .before .before .before .before .before .before .before .before .before .before .before .before .before .before .before .before .before .before .scalars-fit .ensures) (c .before .before .before .before .before .before .before .before .before .before .before .before .before .before .before .before .before .before .before .before .before .before .before .before .before .before .before .before .if1 .left) (c .before .before .before .before .before .before .before .before .before .before .before .before .before .before .before .before .before .before .before .before .before .before .before .before .before .before .scalars-from .ensures) (c .before .before .before .before .before .before .before .before .before .before .before .before .before .before .before .before .before .before .before .carry-out .ensures) (c .before .before .before .before .before .if2 .left) (c .before .before .store-scalars .ensures)
+    let at-store-scalars = c .before .before in
+    let branch2 = at-store-scalars .before .before .before in
+    let at-carry-out = branch2 .before .before .before .before .before .before .before .before .before .before .before
+    .before .before .before in
+    let at-scalars-from = at-carry-out .before .before .before .before .before .before .before in
+    let branch = at-scalars-from .before .before in
+    let at-scalars-fit = branch .before in
+    let at-settings-from = at-scalars-fit .before .before in
+    let start = at-settings-from .before .before .before .before .before .before .before .before .before .before in
+    carried-done (start .args .settings .now) (start .args .scalars .now) (at-settings-from .settings-from .ensures)
+    (at-scalars-fit .scalars-fit .ensures) (branch .if1 .left) (at-scalars-from .scalars-from .ensures)
+    (at-carry-out .carry-out .ensures) (branch2 .if2 .left) (at-store-scalars .store-scalars .ensures)
 
 pub carry-out-spec : {M : Type 1} → statement M
 carry-out-spec =

@@ -16,12 +16,18 @@ unfit-answer-requires c κs = search needs
 
 returns : tie.Need-returns
 returns c =
-    let s = c .before .before .before .before .before .before .before .before .before .before .before .before in
-    written-unfit (s .args .settings .now) (s .args .scalars .now) (c .before .before .before .settings-from .ensures) (c .before .before .scalars-fit .ensures) (c .before .if1 .taken) (c .unfit-answer .ensures)
+    let branch = c .before in
+    let at-scalars-fit = branch .before in
+    let at-settings-from = at-scalars-fit .before in
+    let start = at-settings-from .before .before .before .before .before .before .before .before .before in
+    written-unfit (start .args .settings .now) (start .args .scalars .now) (at-settings-from .settings-from .ensures)
+    (at-scalars-fit .scalars-fit .ensures) (branch .if1 .taken) (c .unfit-answer .ensures)
 
 scalars-from-requires : tie.Need-scalars-from-requires
 scalars-from-requires c κs =
-    fit-room (c .before .before .before .before .before .before .before .before .before .before .before .args .scalars .now) [] (c .before .scalars-fit .ensures) (c .if1 .left)
+    let at-scalars-fit = c .before in
+    let start = at-scalars-fit .before .before .before .before .before .before .before .before .before .before in
+    fit-room (start .args .scalars .now) [] (at-scalars-fit .scalars-fit .ensures) (c .if1 .left)
 
 write-books-requires : tie.Need-write-books-requires
 write-books-requires c κs = search needs
@@ -31,16 +37,30 @@ same-length c = search needs
 
 returns-2 : tie.Need-returns-2
 returns-2 c =
-    let s = c .before .before .before .before .before .before .before .before .before .before .before .before .before .before .before .before .before .before in
-    written-refused (s .args .settings .now) (s .args .scalars .now) (c .before .before .before .before .before .before .before .before .before .settings-from .ensures) (c .before .before .before .before .before .before .before .before .scalars-fit .ensures) (c .before .before .before .before .before .before .before .if1 .left) (c .before .before .before .before .before .before .scalars-from .ensures) (c .before .before .before .before .write-books .ensures) (c .if2 .taken)
+    let at-write-books = c .before .before .before .before in
+    let at-scalars-from = at-write-books .before .before in
+    let branch = at-scalars-from .before in
+    let at-scalars-fit = branch .before in
+    let at-settings-from = at-scalars-fit .before in
+    let start = at-settings-from .before .before .before .before .before .before .before .before .before in
+    written-refused (start .args .settings .now) (start .args .scalars .now)
+    (at-settings-from .settings-from .ensures) (at-scalars-fit .scalars-fit .ensures) (branch .if1 .left)
+    (at-scalars-from .scalars-from .ensures) (at-write-books .write-books .ensures) (c .if2 .taken)
 
 same-length-2 : tie.Need-same-length-2
 same-length-2 c = search needs
 
 returns-3 : tie.Need-returns-3
 returns-3 c =
-    let s = c .before .before .before .before .before .before .before .before .before .before .before .before .before .before .before .before .before .before in
-    written-done (s .args .settings .now) (s .args .scalars .now) (c .before .before .before .before .before .before .before .before .before .settings-from .ensures) (c .before .before .before .before .before .before .before .before .scalars-fit .ensures) (c .before .before .before .before .before .before .before .if1 .left) (c .before .before .before .before .before .before .scalars-from .ensures) (c .before .before .before .before .write-books .ensures) (c .if2 .left)
+    let at-write-books = c .before .before .before .before in
+    let at-scalars-from = at-write-books .before .before in
+    let branch = at-scalars-from .before in
+    let at-scalars-fit = branch .before in
+    let at-settings-from = at-scalars-fit .before in
+    let start = at-settings-from .before .before .before .before .before .before .before .before .before in
+    written-done (start .args .settings .now) (start .args .scalars .now) (at-settings-from .settings-from .ensures)
+    (at-scalars-fit .scalars-fit .ensures) (branch .if1 .left) (at-scalars-from .scalars-from .ensures)
+    (at-write-books .write-books .ensures) (c .if2 .left)
 
 pub write-books-spec : {M : Type 1} → statement M
 write-books-spec =

@@ -8,6 +8,7 @@ use Rattle.rules.specs.Acceptance.{held}
 use Rattle.rules.specs.Calls.{handed-refusal}
 use Rattle.primitives.specs.Settings.{settings-of}
 use Rattle.records.specs.Books.{Tables, tables, books-of, room-of}
+use Rattle.acceptance.specs.Total.{total-held}
 use Rattle.call_answers.specs.Called.{handed-refused}
 use Rattle.rewards.specs.Rewards.{held-small}
 use Rattle.operations.proofs.deposit_receipts.process_deposit_receipt.Statement.{statement}
@@ -44,7 +45,7 @@ module _ (c : tie.Else1) where
   accepted = sym (c .before .before .accept .ensures .0) ∙ c .if1 .left
 
   summed : c .before .before .accept .result .held .0 ≡ held (books-of (start .args .scalars) (lent start))
-  summed = c .before .before .accept .ensures .1 (c .if1 .left)
+  summed = total-held _ _ _ accepted (c .before .before .accept .ensures .1)
 
   small : c .before .before .accept .result .held .0 ≤ BOUND
   small = omega (arith, summed, held-small _ _ _ 0 0 accepted)

@@ -2,40 +2,28 @@ use borrow.Author.Needs.{needs}
 use Rattle.call_answers.specs.Called.{handed-refused}
 use Rattle.operations.proofs.payments.process_withdrawals.Statement.{statement}
 use Rattle.operations.proofs.payments.process_withdrawals.Tie as tie
-use Rattle.operations.proofs.payments.process_withdrawals.Reads as reads
-use Rattle.operations.proofs.payments.process_withdrawals.Lts as lts
-use Rattle.acceptance.proofs.handed.Reads as handed-reads
-use Rattle.operations.proofs.payments.process_withdrawals_accepted.Reads as process-withdrawals-accepted-reads
 
--- src/payments.rt:102:9
 handed-requires : tie.Need-handed-requires
 handed-requires c κs = search needs
 
--- src/payments.rt:112:9
 same-length : tie.Need-same-length
 same-length c = search needs
 
--- src/payments.rt:112:9
 same-length-2 : tie.Need-same-length-2
 same-length-2 c = search needs
 
--- src/payments.rt:112:9
 returns : tie.Need-returns
 returns c = handed-refused _ _ _ _ _ (c .before .handed .ensures) (c .if1 .taken)
 
--- src/payments.rt:117:5
 process-withdrawals-accepted-requires : tie.Need-process-withdrawals-accepted-requires
 process-withdrawals-accepted-requires c κs = search needs
 
--- src/payments.rt:82:1
 same-length-3 : tie.Need-same-length-3
 same-length-3 c = search needs
 
--- src/payments.rt:82:1
 same-length-4 : tie.Need-same-length-4
 same-length-4 c = search needs
 
--- src/payments.rt:82:1
 returns-2 : tie.Need-returns-2
 returns-2 c = c .before .before .before .before .process-withdrawals-accepted .ensures
 

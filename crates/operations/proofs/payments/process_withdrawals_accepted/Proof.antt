@@ -13,12 +13,6 @@ use Rattle.operations.specs.Payments.{listing-ready, listed-count, payin
 use Rattle.operations.specs.Payments.{expected-same, payments-refused, payments-late, payments-done}
 use Rattle.operations.proofs.payments.process_withdrawals_accepted.Statement.{statement}
 use Rattle.operations.proofs.payments.process_withdrawals_accepted.Tie as tie
-use Rattle.operations.proofs.payments.process_withdrawals_accepted.Reads as reads
-use Rattle.operations.proofs.payments.process_withdrawals_accepted.Lts as lts
-use Rattle.expected_withdrawals.proofs.get_expected_withdrawals.Reads as get-expected-withdrawals-reads
-use Rattle.withdrawals.proofs.next_index.Reads as next-index-reads
-use Rattle.withdrawals.proofs.process_withdrawals.Reads as process-withdrawals-reads
-use Rattle.withdrawals.proofs.withdrawals_refusal.Reads as withdrawals-refusal-reads
 
 abbrev lent : tie.Start → Tables
 lent c =
@@ -48,30 +42,24 @@ compared : (c : tie.After-withdrawals-refusal)
     .before .before .before .before .before .before .before .before .before))
 compared c = c .withdrawals-refusal .ensures _ _ (listed (c .before))
 
--- src/payments.rt:42:9
 get-expected-withdrawals-requires : tie.Need-get-expected-withdrawals-requires
 get-expected-withdrawals-requires c κs = listing-ready _ _ _ (c .before .before .before .before .before .before
     .before .pre)
 
--- src/payments.rt:49:9
 withdrawals-refusal-requires : tie.Need-withdrawals-refusal-requires
 withdrawals-refusal-requires c κs = listed-count _ _ _ (c .before .before .before .before .before .before .before
     .before .pre) (listed c)
 
--- src/payments.rt:51:9
 same-length : tie.Need-same-length
 same-length c = search needs
 
--- src/payments.rt:51:9
 same-length-2 : tie.Need-same-length-2
 same-length-2 c = search needs
 
--- src/payments.rt:51:9
 returns : tie.Need-returns
 returns c = payments-refused _ _ _ _ (c .before .before .before .before .before .before .before .before .before
     .before .pre) _ (compared (c .before)) (c .if1 .taken)
 
--- src/payments.rt:56:9
 next-index-requires : tie.Need-next-index-requires
 next-index-requires c κs =
     let start = c .before .before .before .before .before .before .before .before .before .before in
@@ -79,15 +67,12 @@ next-index-requires c κs =
     (sym (compared (c .before)) ∙ c .if1 .left) in
     (k .count, k .index)
 
--- src/payments.rt:58:9
 same-length-3 : tie.Need-same-length-3
 same-length-3 c = search needs
 
--- src/payments.rt:58:9
 same-length-4 : tie.Need-same-length-4
 same-length-4 c = search needs
 
--- src/payments.rt:58:9
 returns-2 : tie.Need-returns-2
 returns-2 c =
     let start = c .before .before .before .before .before .before .before .before .before .before .before .before
@@ -97,7 +82,6 @@ returns-2 c =
     payments-late _ _ _ _ (start .pre) (sym (compared (c .before .before .before .before)) ∙ c .before .before
     .before .if1 .left) over
 
--- src/payments.rt:63:9
 process-withdrawals-requires : tie.Need-process-withdrawals-requires
 process-withdrawals-requires c κs =
     let h = c .before .before .before .before .before .before .before .before .before .before .before .before .before
@@ -117,15 +101,12 @@ process-withdrawals-requires c κs =
       ),
     )
 
--- src/payments.rt:15:1
 same-length-5 : tie.Need-same-length-5
 same-length-5 c = search needs
 
--- src/payments.rt:15:1
 same-length-6 : tie.Need-same-length-6
 same-length-6 c = search needs
 
--- src/payments.rt:15:1
 returns-3 : tie.Need-returns-3
 returns-3 c =
     let start = c .before .before .before .before .before .before .before .before .before .before .before .before

@@ -4,22 +4,13 @@ use Rattle.file_calls.specs.Laws.{code-written}
 use Rattle.runs.specs.Steps.{still-accepted, sum-known, line-written}
 use Rattle.runs.proofs.lines.carry_out_line.Statement.{statement}
 use Rattle.runs.proofs.lines.carry_out_line.Tie as tie
-use Rattle.runs.proofs.lines.carry_out_line.Reads as reads
-use Rattle.runs.proofs.lines.carry_out_line.Lts as lts
-use Rattle.acceptance.proofs.held.Reads as held-reads
-use Rattle.calls_reader.proofs.code_at.Reads as code-at-reads
-use Rattle.file_calls.proofs.carry_out_call.Reads as carry-out-call-reads
-use Rattle.runs.proofs.lines.put_line.Reads as put-line-reads
 
--- src/lines.rt:52:9
 code-at-requires : tie.Need-code-at-requires
 code-at-requires c κs = search needs
 
--- src/lines.rt:53:9
 carry-out-call-requires : tie.Need-carry-out-call-requires
 carry-out-call-requires c κs = search needs
 
--- src/lines.rt:65:9
 held-requires : tie.Need-held-requires
 held-requires c κs =
     let call = c .before .before .before .before .before .before .before .before .before .before .before .before
@@ -34,45 +25,35 @@ held-requires c κs =
       consolidations = call .kept .1 .1 .1 .1 .1 .1 .0;
     }))
 
--- src/lines.rt:66:26
 cast-put-line : tie.Need-cast-put-line
 cast-put-line c = search needs
 
--- src/lines.rt:66:39
 cast-put-line-2 : tie.Need-cast-put-line-2
 cast-put-line-2 c = search needs
 
--- src/lines.rt:66:5
 put-line-requires : tie.Need-put-line-requires
 put-line-requires c κs = c .before .before .before .before .before .before .before .before .before .before .before
     .before .before .before .before .before .before .before .before .before .before .before .before .before .before
     .before .before .before .before .before .pre .1 .1
 
--- src/lines.rt:24:1
 same-length : tie.Need-same-length
 same-length c = search needs
 
--- src/lines.rt:24:1
 same-length-2 : tie.Need-same-length-2
 same-length-2 c = search needs
 
--- src/lines.rt:24:1
 same-length-3 : tie.Need-same-length-3
 same-length-3 c = search needs
 
--- src/lines.rt:24:1
 same-length-4 : tie.Need-same-length-4
 same-length-4 c = search needs
 
--- src/lines.rt:24:1
 same-length-5 : tie.Need-same-length-5
 same-length-5 c = search needs
 
--- src/lines.rt:24:1
 same-length-6 : tie.Need-same-length-6
 same-length-6 c = search needs
 
--- src/lines.rt:24:1
 returns : tie.Need-returns
 returns c =
     let start = c .before .before .before .before .before .before .before .before .before .before .before .before

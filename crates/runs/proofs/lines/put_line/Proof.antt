@@ -4,58 +4,43 @@ use lib.ListN.{length-set}
 use borrow.Author.Needs.{needs}
 use Rattle.runs.proofs.lines.put_line.Statement.{statement}
 use Rattle.runs.proofs.lines.put_line.Tie as tie
-use Rattle.runs.proofs.lines.put_line.Reads as reads
-use Rattle.runs.proofs.lines.put_line.Lts as lts
 
--- src/lines.rt:18:13
 mul-results : tie.Need-mul-results
 mul-results c = search needs
 
--- src/lines.rt:18:5
 mul-results-2 : tie.Need-mul-results-2
 mul-results-2 c = search needs
 
--- src/lines.rt:18:5
 slice-write-results : tie.Need-slice-write-results
 slice-write-results c = search needs
 
--- src/lines.rt:19:13
 mul-results-3 : tie.Need-mul-results-3
 mul-results-3 c = search needs
 
--- src/lines.rt:19:13
 add-results : tie.Need-add-results
 add-results c = search needs
 
--- src/lines.rt:19:5
 mul-results-4 : tie.Need-mul-results-4
 mul-results-4 c = search needs
 
--- src/lines.rt:19:5
 slice-write-results-2 : tie.Need-slice-write-results-2
 slice-write-results-2 c = simp length-set (omega arith)
 
--- src/lines.rt:20:13
 mul-results-5 : tie.Need-mul-results-5
 mul-results-5 c = search needs
 
--- src/lines.rt:20:13
 add-results-2 : tie.Need-add-results-2
 add-results-2 c = search needs
 
--- src/lines.rt:20:5
 mul-results-6 : tie.Need-mul-results-6
 mul-results-6 c = search needs
 
--- src/lines.rt:20:5
 slice-write-results-3 : tie.Need-slice-write-results-3
 slice-write-results-3 c = simp length-set (omega arith)
 
--- src/lines.rt:14:1
 same-length : tie.Need-same-length
 same-length c = search needs
 
--- src/lines.rt:14:1
 returns : tie.Need-returns
 returns c = refl
 

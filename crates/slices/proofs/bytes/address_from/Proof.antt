@@ -4,15 +4,10 @@ use Rattle.tables.specs.Rows.{rows, rows-getD}
 use borrow.Author.Needs.{needs}
 use Rattle.slices.proofs.bytes.address_from.Statement.{statement}
 use Rattle.slices.proofs.bytes.address_from.Tie as tie
-use Rattle.slices.proofs.bytes.address_from.Reads as reads
-use Rattle.slices.proofs.bytes.address_from.Lts as lts
-use Rattle.slices.proofs.withdrawals.address_at.Reads as address-at-reads
 
--- src/bytes.rt:26:5
 address-at-requires : tie.Need-address-at-requires
 address-at-requires c κs = search needs
 
--- src/bytes.rt:22:1
 returns : tie.Need-returns
 unfolding rows
 returns c =

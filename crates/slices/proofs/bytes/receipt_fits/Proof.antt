@@ -1,10 +1,7 @@
 use Rattle.slices.specs.Exported.{fit-three}
 use Rattle.slices.proofs.bytes.receipt_fits.Statement.{statement}
 use Rattle.slices.proofs.bytes.receipt_fits.Tie as tie
-use Rattle.slices.proofs.bytes.receipt_fits.Reads as reads
-use Rattle.slices.proofs.bytes.receipt_fits.Lts as lts
 
--- src/bytes.rt:29:1
 returns : tie.Need-returns
 returns c = fit-three _ _ _
 

@@ -6,9 +6,6 @@ use borrow.Author.Needs.{needs}
 use Rattle.slices.proofs.Copy.{Filled, filled-none, filled-more, filled-all}
 use Rattle.slices.proofs.withdrawals.address_at.Statement.{statement}
 use Rattle.slices.proofs.withdrawals.address_at.Tie as tie
-use Rattle.slices.proofs.withdrawals.address_at.Reads as reads
-use Rattle.slices.proofs.withdrawals.address_at.Lts as lts
-use Rattle.slices.proofs.withdrawals.byte_at.Reads as byte-at-reads
 
 abbrev Inv-loop : tie.InvT-loop
 Inv-loop addresses i out₀ j₀ out j = (j ≤ 20) × Filled 0 (λ k. getD addresses (20 * i + k) 0) out 20 j
@@ -16,39 +13,30 @@ Inv-loop addresses i out₀ j₀ out j = (j ≤ 20) × Filled 0 (λ k. getD addr
 abbrev μ-loop : tie.MeasureT-loop
 μ-loop addresses i out₀ j₀ out j = 20 - j
 
--- src/withdrawals.rt:25:5
 loop-holds : tie.Need-loop-holds Inv-loop μ-loop
 loop-holds c = (omega arith, filled-none refl)
 
--- src/withdrawals.rt:26:37
 mul-byte-at : tie.Need-mul-byte-at Inv-loop μ-loop
 mul-byte-at c = omega arith
 
--- src/withdrawals.rt:26:37
 add-byte-at : tie.Need-add-byte-at Inv-loop μ-loop
 add-byte-at c = omega arith
 
--- src/withdrawals.rt:26:18
 byte-at-requires : tie.Need-byte-at-requires Inv-loop μ-loop
 byte-at-requires c κs = search needs
 
--- src/withdrawals.rt:26:9
 array-write-out : tie.Need-array-write-out Inv-loop μ-loop
 array-write-out c = omega arith
 
--- src/withdrawals.rt:27:9
 add-j : tie.Need-add-j Inv-loop μ-loop
 add-j c = omega arith
 
--- src/withdrawals.rt:25:5
 loop-less : tie.Need-loop-less Inv-loop μ-loop
 loop-less c = omega arith
 
--- src/withdrawals.rt:25:5
 loop-again : tie.Need-loop-again Inv-loop μ-loop
 loop-again c = (omega arith, filled-more (omega arith) (c .byte-at .ensures) (c .before .before .loop .inv .1))
 
--- src/withdrawals.rt:19:1
 returns : tie.Need-returns Inv-loop μ-loop
 returns c =
     let e : c .before .loop .j ≡ 20 = omega arith in

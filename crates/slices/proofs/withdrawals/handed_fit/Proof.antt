@@ -1,10 +1,7 @@
 use Rattle.slices.specs.Exported.{fit-three}
 use Rattle.slices.proofs.withdrawals.handed_fit.Statement.{statement}
 use Rattle.slices.proofs.withdrawals.handed_fit.Tie as tie
-use Rattle.slices.proofs.withdrawals.handed_fit.Reads as reads
-use Rattle.slices.proofs.withdrawals.handed_fit.Lts as lts
 
--- src/withdrawals.rt:72:1
 returns : tie.Need-returns
 returns c = fit-three _ _ _
 

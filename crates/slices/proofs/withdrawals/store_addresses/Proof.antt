@@ -1,4 +1,4 @@
-use mathlib.Core.Path.{_≡_}
+use mathlib.Core.Path.{_≡_, refl}
 use Prim.Native.Nat.{_-_, _/_, _%_, _≤_}
 use native.Mathlib.Omega.{arith}
 use lib.ListN.{getD}
@@ -6,9 +6,6 @@ use Rattle.slices.specs.Withdrawals.{record-of}
 use Rattle.slices.proofs.Copy.{Front, front-none, front-more}
 use Rattle.slices.proofs.withdrawals.store_addresses.Statement.{statement}
 use Rattle.slices.proofs.withdrawals.store_addresses.Tie as tie
-use Rattle.slices.proofs.withdrawals.store_addresses.Reads as reads
-use Rattle.slices.proofs.withdrawals.store_addresses.Lts as lts
-use Rattle.slices.proofs.withdrawals.byte_of.Reads as byte-of-reads
 
 abbrev Inv-loop : tie.InvT-loop
 Inv-loop addresses₀ list j₀ addresses j =
@@ -17,35 +14,33 @@ Inv-loop addresses₀ list j₀ addresses j =
 abbrev μ-loop : tie.MeasureT-loop
 μ-loop addresses₀ list j₀ addresses j = 320 - j
 
--- src/withdrawals.rt:135:5
 loop-holds : tie.Need-loop-holds Inv-loop μ-loop
 loop-holds c = (omega arith, front-none)
 
--- src/withdrawals.rt:136:24
-byte-of-requires : tie.Need-byte-of-requires Inv-loop μ-loop
-byte-of-requires c κs = omega arith
+mul-w : tie.Need-mul-w Inv-loop μ-loop
+mul-w c = omega arith
 
--- src/withdrawals.rt:136:9
+array-copy-out-w : tie.Need-array-copy-out-w Inv-loop μ-loop
+array-copy-out-w c = omega arith
+
+array-read-addresses : tie.Need-array-read-addresses Inv-loop μ-loop
+array-read-addresses c = omega arith
+
 slice-write-addresses : tie.Need-slice-write-addresses Inv-loop μ-loop
-slice-write-addresses c = omega (arith, c .before .before .loop .inv .1 .size)
+slice-write-addresses c = omega (arith, c .before .before .before .loop .inv .1 .size)
 
--- src/withdrawals.rt:137:9
 add-j : tie.Need-add-j Inv-loop μ-loop
 add-j c = omega arith
 
--- src/withdrawals.rt:135:5
 loop-less : tie.Need-loop-less Inv-loop μ-loop
 loop-less c = omega arith
 
--- src/withdrawals.rt:135:5
 loop-again : tie.Need-loop-again Inv-loop μ-loop
-loop-again c = (omega arith, front-more (omega arith) (c .byte-of .ensures) (c .before .before .loop .inv .1))
+loop-again c = (omega arith, front-more (omega arith) refl (c .before .before .before .loop .inv .1))
 
--- src/withdrawals.rt:130:1
 same-length : tie.Need-same-length Inv-loop μ-loop
 same-length c = c .before .loop .inv .1 .size
 
--- src/withdrawals.rt:130:1
 returns : tie.Need-returns Inv-loop μ-loop
 returns c =
     let e : c .before .loop .j ≡ 320 = omega arith in
@@ -58,7 +53,9 @@ store-addresses-spec =
     Inv-loop
     μ-loop
     loop-holds
-    byte-of-requires
+    mul-w
+    array-copy-out-w
+    array-read-addresses
     slice-write-addresses
     add-j
     loop-less

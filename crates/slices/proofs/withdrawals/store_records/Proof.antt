@@ -5,9 +5,6 @@ use Rattle.slices.specs.Withdrawals.{part, record-of}
 use Rattle.slices.proofs.Copy.{Front, front-none, front-more}
 use Rattle.slices.proofs.withdrawals.store_records.Statement.{statement}
 use Rattle.slices.proofs.withdrawals.store_records.Tie as tie
-use Rattle.slices.proofs.withdrawals.store_records.Reads as reads
-use Rattle.slices.proofs.withdrawals.store_records.Lts as lts
-use Rattle.slices.proofs.withdrawals.number_of.Reads as number-of-reads
 
 abbrev Inv-loop : tie.InvT-loop
 Inv-loop records₀ list j₀ records j =
@@ -16,39 +13,37 @@ Inv-loop records₀ list j₀ records j =
 abbrev μ-loop : tie.MeasureT-loop
 μ-loop records₀ list j₀ records j = 48 - j
 
--- src/withdrawals.rt:115:5
 loop-holds : tie.Need-loop-holds Inv-loop μ-loop
 loop-holds c = (omega arith, front-none)
 
--- src/withdrawals.rt:116:22
+mul-w : tie.Need-mul-w Inv-loop μ-loop
+mul-w c = omega arith
+
+array-copy-out-w : tie.Need-array-copy-out-w Inv-loop μ-loop
+array-copy-out-w c = omega arith
+
 number-of-requires : tie.Need-number-of-requires Inv-loop μ-loop
 number-of-requires c κs = omega arith
 
--- src/withdrawals.rt:116:9
 mul-records : tie.Need-mul-records Inv-loop μ-loop
 mul-records c = omega arith
 
--- src/withdrawals.rt:116:9
 slice-write-records : tie.Need-slice-write-records Inv-loop μ-loop
-slice-write-records c = omega (arith, c .before .before .loop .inv .1 .size)
+slice-write-records c = omega (arith, c .before .before .before .loop .inv .1 .size)
 
--- src/withdrawals.rt:117:9
 add-j : tie.Need-add-j Inv-loop μ-loop
 add-j c = omega arith
 
--- src/withdrawals.rt:115:5
 loop-less : tie.Need-loop-less Inv-loop μ-loop
 loop-less c = omega arith
 
--- src/withdrawals.rt:115:5
 loop-again : tie.Need-loop-again Inv-loop μ-loop
-loop-again c = (omega arith, front-more (omega arith) (c .number-of .ensures) (c .before .before .loop .inv .1))
+loop-again c =
+    (omega arith, front-more (omega arith) (c .number-of .ensures) (c .before .before .before .loop .inv .1))
 
--- src/withdrawals.rt:110:1
 same-length : tie.Need-same-length Inv-loop μ-loop
 same-length c = c .before .loop .inv .1 .size
 
--- src/withdrawals.rt:110:1
 returns : tie.Need-returns Inv-loop μ-loop
 returns c =
     let e : c .before .loop .j ≡ 48 = omega arith in
@@ -61,6 +56,8 @@ store-records-spec =
     Inv-loop
     μ-loop
     loop-holds
+    mul-w
+    array-copy-out-w
     number-of-requires
     mul-records
     slice-write-records

@@ -1,48 +1,34 @@
 use borrow.Author.Needs.{needs}
 use Rattle.slices.proofs.withdrawals.withdrawal_at.Statement.{statement}
 use Rattle.slices.proofs.withdrawals.withdrawal_at.Tie as tie
-use Rattle.slices.proofs.withdrawals.withdrawal_at.Reads as reads
-use Rattle.slices.proofs.withdrawals.withdrawal_at.Lts as lts
-use Rattle.slices.proofs.number_at.Reads as number-at-reads
-use Rattle.slices.proofs.withdrawals.address_at.Reads as address-at-reads
 
--- src/withdrawals.rt:36:43
 mul-number-at : tie.Need-mul-number-at
 mul-number-at c = search needs
 
--- src/withdrawals.rt:36:9
 number-at-requires : tie.Need-number-at-requires
 number-at-requires c κs = search needs
 
--- src/withdrawals.rt:37:47
 mul-number-at-2 : tie.Need-mul-number-at-2
 mul-number-at-2 c = search needs
 
--- src/withdrawals.rt:37:47
 add-number-at : tie.Need-add-number-at
 add-number-at c = search needs
 
--- src/withdrawals.rt:37:9
 number-at-requires-2 : tie.Need-number-at-requires-2
 number-at-requires-2 c κs = search needs
 
--- src/withdrawals.rt:38:9
 address-at-requires : tie.Need-address-at-requires
 address-at-requires c κs = search needs
 
--- src/withdrawals.rt:39:44
 mul-number-at-3 : tie.Need-mul-number-at-3
 mul-number-at-3 c = search needs
 
--- src/withdrawals.rt:39:44
 add-number-at-2 : tie.Need-add-number-at-2
 add-number-at-2 c = search needs
 
--- src/withdrawals.rt:39:9
 number-at-requires-3 : tie.Need-number-at-requires-3
 number-at-requires-3 c κs = search needs
 
--- src/withdrawals.rt:32:1
 returns : tie.Need-returns
 returns c =
     rw (

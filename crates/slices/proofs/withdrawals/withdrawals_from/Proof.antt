@@ -6,9 +6,6 @@ use Rattle.slices.specs.Withdrawals.{withdrawal-at}
 use Rattle.slices.proofs.Copy.{Filled, filled-none, filled-more, filled-all}
 use Rattle.slices.proofs.withdrawals.withdrawals_from.Statement.{statement}
 use Rattle.slices.proofs.withdrawals.withdrawals_from.Tie as tie
-use Rattle.slices.proofs.withdrawals.withdrawals_from.Reads as reads
-use Rattle.slices.proofs.withdrawals.withdrawals_from.Lts as lts
-use Rattle.slices.proofs.withdrawals.withdrawal_at.Reads as withdrawal-at-reads
 
 abbrev Inv-loop : tie.InvT-loop
 Inv-loop records addresses out₀ j₀ out j =
@@ -17,35 +14,27 @@ Inv-loop records addresses out₀ j₀ out j =
 abbrev μ-loop : tie.MeasureT-loop
 μ-loop records addresses out₀ j₀ out j = 16 - j
 
--- src/withdrawals.rt:60:5
 loop-holds : tie.Need-loop-holds Inv-loop μ-loop
 loop-holds c = (omega arith, filled-none refl)
 
--- src/withdrawals.rt:61:13
 withdrawal-at-requires : tie.Need-withdrawal-at-requires Inv-loop μ-loop
 withdrawal-at-requires c κs = omega arith
 
--- src/withdrawals.rt:62:9
 mul-out : tie.Need-mul-out Inv-loop μ-loop
 mul-out c = omega arith
 
--- src/withdrawals.rt:62:9
 array-set-from-out : tie.Need-array-set-from-out Inv-loop μ-loop
 array-set-from-out c = omega arith
 
--- src/withdrawals.rt:63:9
 add-j : tie.Need-add-j Inv-loop μ-loop
 add-j c = omega arith
 
--- src/withdrawals.rt:60:5
 loop-less : tie.Need-loop-less Inv-loop μ-loop
 loop-less c = omega arith
 
--- src/withdrawals.rt:60:5
 loop-again : tie.Need-loop-again Inv-loop μ-loop
 loop-again c = (omega arith, filled-more (omega arith) (c .withdrawal-at .ensures) (c .before .before .loop .inv .1))
 
--- src/withdrawals.rt:49:1
 returns : tie.Need-returns Inv-loop μ-loop
 returns c =
     let e : c .before .loop .j ≡ 16 = omega arith in

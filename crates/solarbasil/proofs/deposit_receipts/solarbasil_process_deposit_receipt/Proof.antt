@@ -34,9 +34,13 @@ returns c =
 
 scalars-from-requires : tie.Need-scalars-from-requires
 scalars-from-requires c κs =
-    let s = c .before .before .before .before .before .before .before .before .before .before .before .before
+    let branch = c .before in
+    let at-receipt-fits = branch .before in
+    let start = at-receipt-fits .before .before .before .before .before .before .before .before .before .before
     .before .before in
-    fit-room (s .args .scalars .now) (others s) (c .before .before .receipt-fits .ensures) (c .before .if1 .left)
+    fit-room (start .args .scalars .now)
+    (others start)
+    (at-receipt-fits .receipt-fits .ensures) (branch .if1 .left)
 
 key-from-requires : tie.Need-key-from-requires
 key-from-requires c κs =
@@ -59,13 +63,14 @@ process-deposit-receipt-requires c κs = search needs
 
 store-scalars-requires : tie.Need-store-scalars-requires
 store-scalars-requires c κs =
-    let s = c .before .before .before .before .before .before .before .before .before .before .before .before
-    .before .before .before .before .before .before .before .before .before .before .before .before .before .before
-    .before .before .before in
-    fit-room (s .args .scalars .now) (others s) (c .before .before .before .before .before .before .before .before
-    .before .before .before .before .before .before .before .before .before .receipt-fits .ensures) (c .before
-    .before .before .before .before .before .before .before .before .before .before .before .before .before .before
-    .before .if1 .left)
+    let branch = c .before .before .before .before .before .before .before .before .before .before .before .before
+    .before .before .before .before in
+    let at-receipt-fits = branch .before in
+    let start = at-receipt-fits .before .before .before .before .before .before .before .before .before .before
+    .before .before in
+    fit-room (start .args .scalars .now)
+    (others start)
+    (at-receipt-fits .receipt-fits .ensures) (branch .if1 .left)
 
 same-length-2 : tie.Need-same-length-2
 same-length-2 c = search needs
@@ -81,25 +86,21 @@ same-length-5 c = search needs
 
 returns-2 : tie.Need-returns-2
 returns-2 c =
-    exported-called (c .before .before .before .before .before .before .before .before .before .before .before
-    .before .before .before .before .before .before .before .before .before .before .before .settings-from .ensures)
-    (c .before .before .before .before .before .before .before .before .before .before .before .before .before
-    .before .before .before .before .before .before .before .receipt-fits .ensures) (c .before .before .before
-    .before .before .before .before .before .before .before .before .before .before .before .before .before .before
-    .before .before .if1 .left) (c .before .before .before .before .before .before .before .before .before .before
-    .before .before .before .before .before .before .before .scalars-from .ensures) (called-as (ap₂ (λ k w.
-    deposit-receipt k w (c .before .before .before .before .before .before .before .before .before .before .before
-    .before .before .before .before .before .before .before .before .before .before .before .before .before .before
-    .before .before .before .before .before .before .before .args .amount) (c .before .before .before .before
-    .before .before .before .before .before .before .before .before .before .before .before .before .before .before
-    .before .before .before .before .before .before .before .before .before .before .before .before .before .before
-    .args .index) (c .before .before .before .before .before .before .before .before .before .before .before .before
-    .before .before .before .before .before .before .before .before .before .before .before .before .before .before
-    .before .before .before .before .before .before .args .valid)) (c .before .before .before .before .before
-    .before .before .before .before .before .before .before .before .before .before .before .key-from .ensures) (c
-    .before .before .before .before .before .before .before .before .before .before .before .before .before .before
-    .before .credentials-from .ensures)) (c .before .before .before .before .before .before .before .before .before
-    .before .before .process-deposit-receipt .ensures)) (c .before .before .store-scalars .ensures)
+    let at-store-scalars = c .before .before in
+    let at-process-deposit-receipt = at-store-scalars .before .before .before .before .before .before .before .before
+    .before in
+    let at-credentials-from = at-process-deposit-receipt .before .before .before .before in
+    let at-key-from = at-credentials-from .before in
+    let at-scalars-from = at-key-from .before in
+    let branch = at-scalars-from .before .before in
+    let at-receipt-fits = branch .before in
+    let at-settings-from = at-receipt-fits .before .before in
+    let start = at-settings-from .before .before .before .before .before .before .before .before .before .before in
+    exported-called (at-settings-from .settings-from .ensures) (at-receipt-fits .receipt-fits .ensures)
+    (branch .if1 .left) (at-scalars-from .scalars-from .ensures) (called-as
+    (ap₂ (λ k w. deposit-receipt k w (start .args .amount) (start .args .index) (start .args .valid))
+    (at-key-from .key-from .ensures) (at-credentials-from .credentials-from .ensures))
+    (at-process-deposit-receipt .process-deposit-receipt .ensures)) (at-store-scalars .store-scalars .ensures)
 
 pub solarbasil-process-deposit-receipt-spec : {M : Type 1} → statement M
 solarbasil-process-deposit-receipt-spec =

@@ -50,9 +50,12 @@ returns c =
 
 scalars-from-requires : tie.Need-scalars-from-requires
 scalars-from-requires c κs =
-    let s = c .before .before .before .before .before .before .before .before .before .before .before .before
-    .before .before in
-    fit-room (s .args .scalars .now) (others s) (c .before .expected-fit .ensures) (c .if1 .left)
+    let at-expected-fit = c .before in
+    let start = at-expected-fit .before .before .before .before .before .before .before .before .before .before
+    .before .before .before in
+    fit-room (start .args .scalars .now)
+    (others start)
+    (at-expected-fit .expected-fit .ensures) (c .if1 .left)
 
 get-expected-withdrawals-requires : tie.Need-get-expected-withdrawals-requires
 get-expected-withdrawals-requires c κs = search needs

@@ -37,9 +37,13 @@ returns c =
 
 scalars-from-requires : tie.Need-scalars-from-requires
 scalars-from-requires c κs =
-    let s = c .before .before .before .before .before .before .before .before .before .before .before .before
-    .before .before in
-    fit-room (s .args .scalars .now) (others s) (c .before .before .handed-fit .ensures) (c .before .if1 .left)
+    let branch = c .before in
+    let at-handed-fit = branch .before in
+    let start = at-handed-fit .before .before .before .before .before .before .before .before .before .before .before
+    .before in
+    fit-room (start .args .scalars .now)
+    (others start)
+    (at-handed-fit .handed-fit .ensures) (branch .if1 .left)
 
 withdrawals-from-requires : tie.Need-withdrawals-from-requires
 withdrawals-from-requires c κs = search needs
@@ -49,11 +53,13 @@ process-withdrawals-requires c κs = search needs
 
 store-scalars-requires : tie.Need-store-scalars-requires
 store-scalars-requires c κs =
-    let s = c .before .before .before .before .before .before .before .before .before .before .before .before
-    .before .before .before .before .before .before .before .before .before .before .before .before .before in
-    fit-room (s .args .scalars .now) (others s) (c .before .before .before .before .before .before .before .before
-    .before .before .before .before .before .handed-fit .ensures) (c .before .before .before .before .before .before
-    .before .before .before .before .before .before .if1 .left)
+    let branch = c .before .before .before .before .before .before .before .before .before .before .before .before in
+    let at-handed-fit = branch .before in
+    let start = at-handed-fit .before .before .before .before .before .before .before .before .before .before .before
+    .before in
+    fit-room (start .args .scalars .now)
+    (others start)
+    (at-handed-fit .handed-fit .ensures) (branch .if1 .left)
 
 same-length-2 : tie.Need-same-length-2
 same-length-2 c = search needs
@@ -66,17 +72,18 @@ same-length-4 c = search needs
 
 returns-2 : tie.Need-returns-2
 returns-2 c =
-    exported-called (c .before .before .before .before .before .before .before .before .before .before .before
-    .before .before .before .before .before .before .before .settings-from .ensures) (c .before .before .before
-    .before .before .before .before .before .before .before .before .before .before .before .before .before
-    .handed-fit .ensures) (c .before .before .before .before .before .before .before .before .before .before .before
-    .before .before .before .before .if1 .left) (c .before .before .before .before .before .before .before .before
-    .before .before .before .before .before .scalars-from .ensures) (called-as (ap (λ l. withdrawals (handed-list l
-    (c .before .before .before .before .before .before .before .before .before .before .before .before .before
-    .before .before .before .before .before .before .before .before .before .before .before .before .before .before
-    .before .args .count))) (c .before .before .before .before .before .before .before .before .before .before
-    .before .before .withdrawals-from .ensures)) (c .before .before .before .before .before .before .before .before
-    .before .process-withdrawals .ensures)) (c .before .before .store-scalars .ensures)
+    let at-store-scalars = c .before .before in
+    let at-process-withdrawals = at-store-scalars .before .before .before .before .before .before .before in
+    let at-withdrawals-from = at-process-withdrawals .before .before .before in
+    let at-scalars-from = at-withdrawals-from .before in
+    let branch = at-scalars-from .before .before in
+    let at-handed-fit = branch .before in
+    let at-settings-from = at-handed-fit .before .before in
+    let start = at-settings-from .before .before .before .before .before .before .before .before .before .before in
+    exported-called (at-settings-from .settings-from .ensures) (at-handed-fit .handed-fit .ensures)
+    (branch .if1 .left) (at-scalars-from .scalars-from .ensures) (called-as (ap
+    (λ l. withdrawals (handed-list l (start .args .count))) (at-withdrawals-from .withdrawals-from .ensures))
+    (at-process-withdrawals .process-withdrawals .ensures)) (at-store-scalars .store-scalars .ensures)
 
 pub solarbasil-process-withdrawals-spec : {M : Type 1} → statement M
 solarbasil-process-withdrawals-spec =

@@ -35,9 +35,13 @@ returns c =
 
 scalars-from-requires : tie.Need-scalars-from-requires
 scalars-from-requires c κs =
-    let s = c .before .before .before .before .before .before .before .before .before .before .before .before
+    let branch = c .before in
+    let at-request-fits = branch .before in
+    let start = at-request-fits .before .before .before .before .before .before .before .before .before .before
     .before .before in
-    fit-room (s .args .scalars .now) (others s) (c .before .before .request-fits .ensures) (c .before .if1 .left)
+    fit-room (start .args .scalars .now)
+    (others start)
+    (at-request-fits .request-fits .ensures) (branch .if1 .left)
 
 address-from-requires : tie.Need-address-from-requires
 address-from-requires c κs =
@@ -61,12 +65,14 @@ process-execution-layer-withdrawal-request-requires c κs = search needs
 
 store-scalars-requires : tie.Need-store-scalars-requires
 store-scalars-requires c κs =
-    let s = c .before .before .before .before .before .before .before .before .before .before .before .before
-    .before .before .before .before .before .before .before .before .before .before .before .before .before .before
-    in
-    fit-room (s .args .scalars .now) (others s) (c .before .before .before .before .before .before .before .before
-    .before .before .before .before .before .before .request-fits .ensures) (c .before .before .before .before
-    .before .before .before .before .before .before .before .before .before .if1 .left)
+    let branch = c .before .before .before .before .before .before .before .before .before .before .before .before
+    .before in
+    let at-request-fits = branch .before in
+    let start = at-request-fits .before .before .before .before .before .before .before .before .before .before
+    .before .before in
+    fit-room (start .args .scalars .now)
+    (others start)
+    (at-request-fits .request-fits .ensures) (branch .if1 .left)
 
 same-length-2 : tie.Need-same-length-2
 same-length-2 c = search needs
@@ -79,19 +85,22 @@ same-length-4 c = search needs
 
 returns-2 : tie.Need-returns-2
 returns-2 c =
-    exported-called (c .before .before .before .before .before .before .before .before .before .before .before
-    .before .before .before .before .before .before .before .before .settings-from .ensures) (c .before .before
-    .before .before .before .before .before .before .before .before .before .before .before .before .before .before
-    .before .request-fits .ensures) (c .before .before .before .before .before .before .before .before .before
-    .before .before .before .before .before .before .before .if1 .left) (c .before .before .before .before .before
-    .before .before .before .before .before .before .before .before .before .scalars-from .ensures) (called-as (ap₂
-    (λ a k. withdrawal-request a k (c .before .before .before .before .before .before .before .before .before
-    .before .before .before .before .before .before .before .before .before .before .before .before .before .before
-    .before .before .before .before .before .before .args .amount)) (c .before .before .before .before .before
-    .before .before .before .before .before .before .before .before .address-from .ensures) (c .before .before
-    .before .before .before .before .before .before .before .before .before .before .key-from .ensures)) (c .before
-    .before .before .before .before .before .before .before .before .process-execution-layer-withdrawal-request
-    .ensures)) (c .before .before .store-scalars .ensures)
+    let at-store-scalars = c .before .before in
+    let at-process-execution-layer-withdrawal-request = at-store-scalars .before .before .before .before .before
+    .before .before in
+    let at-key-from = at-process-execution-layer-withdrawal-request .before .before .before in
+    let at-address-from = at-key-from .before in
+    let at-scalars-from = at-address-from .before in
+    let branch = at-scalars-from .before .before in
+    let at-request-fits = branch .before in
+    let at-settings-from = at-request-fits .before .before in
+    let start = at-settings-from .before .before .before .before .before .before .before .before .before .before in
+    exported-called (at-settings-from .settings-from .ensures) (at-request-fits .request-fits .ensures)
+    (branch .if1 .left) (at-scalars-from .scalars-from .ensures) (called-as
+    (ap₂ (λ a k. withdrawal-request a k (start .args .amount))
+    (at-address-from .address-from .ensures) (at-key-from .key-from .ensures))
+    (at-process-execution-layer-withdrawal-request .process-execution-layer-withdrawal-request .ensures))
+    (at-store-scalars .store-scalars .ensures)
 
 pub solarbasil-process-execution-layer-withdrawal-request-spec : {M : Type 1} → statement M
 solarbasil-process-execution-layer-withdrawal-request-spec =

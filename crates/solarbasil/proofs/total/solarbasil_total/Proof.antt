@@ -16,47 +16,48 @@ lent s =
 settings-from-requires : tie.Need-settings-from-requires
 settings-from-requires c κs = search needs
 
--- src/total.rt:37:9
 scalars-fit-requires : tie.Need-scalars-fit-requires
 scalars-fit-requires c κs = search needs
 
--- src/total.rt:38:9
 unfit-answer-requires : tie.Need-unfit-answer-requires
 unfit-answer-requires c κs = search needs
 
--- src/total.rt:38:9
 returns : tie.Need-returns
 returns c =
-    let s = c .before .before .before .before .before .before .before .before .before .before .before in (
-      asked-unfit (s .args .settings .now) [] (lent s) (s .args .scalars .now) (c .before .before .before
-          .settings-from .ensures) (c .before .before .scalars-fit .ensures) (c .before .if1 .taken) (c .unfit-answer
-          .ensures),
-      given-refused _ (λ e. unfit-refused _ (sym (c .unfit-answer .ensures) ∙ e)),
+    let branch = c .before in
+    let at-scalars-fit = branch .before in
+    let at-settings-from = at-scalars-fit .before in
+    let start = at-settings-from .before .before .before .before .before .before .before .before in (
+      asked-unfit (start .args .settings .now) []
+          (lent start)
+          (start .args .scalars .now) (at-settings-from .settings-from .ensures) (at-scalars-fit .scalars-fit .ensures)
+          (branch .if1 .taken) (c .unfit-answer .ensures),
+      given-refused _
+          (λ e. unfit-refused _ (sym (c .unfit-answer .ensures) ∙ e)),
     )
 
--- src/total.rt:40:9
 scalars-from-requires : tie.Need-scalars-from-requires
 scalars-from-requires c κs =
-    let s = c .before .before .before .before .before .before .before .before .before .before in
-    fit-room (s .args .scalars .now) [] (c .before .scalars-fit .ensures) (c .if1 .left)
+    let at-scalars-fit = c .before in
+    let start = at-scalars-fit .before .before .before .before .before .before .before .before .before in
+    fit-room (start .args .scalars .now) [] (at-scalars-fit .scalars-fit .ensures) (c .if1 .left)
 
--- src/total.rt:41:9
 held-requires : tie.Need-held-requires
 held-requires c κs = search needs
 
--- src/total.rt:51:9
 returns-2 : tie.Need-returns-2
 returns-2 c =
-    let s = c .before .before .before .before .before .before .before .before .before .before .before .before
-    .before .before in (
-      asked-fit (s .args .settings .now) [] (lent s) (s .args .scalars .now) (c .before .before .before .before
-          .before .before .settings-from .ensures) (c .before .before .before .before .before .scalars-fit .ensures) (c
-          .before .before .before .before .if1 .left) (c .before .before .before .scalars-from .ensures) (c .before
-          .before .held .ensures .0),
-      given-refused _ (c .if2 .taken),
-    )
+    let at-held = c .before .before in
+    let at-scalars-from = at-held .before in
+    let branch = at-scalars-from .before in
+    let at-scalars-fit = branch .before in
+    let at-settings-from = at-scalars-fit .before in
+    let start = at-settings-from .before .before .before .before .before .before .before .before in
+    let number = asked-fit (start .args .settings .now) [] (lent start) (start .args .scalars .now)
+    (at-settings-from .settings-from .ensures) (at-scalars-fit .scalars-fit .ensures) (branch .if1 .left)
+    (at-scalars-from .scalars-from .ensures) (at-held .held .ensures .0) in
+    (number, given-refused _ (c .if2 .taken))
 
--- src/total.rt:11:1
 returns-3 : tie.Need-returns-3
 returns-3 c =
     let s = c .before .before .before .before .before .before .before .before .before .before .before .before

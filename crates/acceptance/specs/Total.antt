@@ -1,4 +1,4 @@
--- The public sum: what accepted books hold, and 0 where what was handed in is refused.
+-- The sum that the tests hand on: what accepted books hold, and 0 where what was handed in is refused.
 use mathlib.Core.Path.{_≡_, sym, _∙_}
 use Prim.Native.Nat.{ℕ}
 use lib.Dec.{eqb}
@@ -21,3 +21,8 @@ pub total-known : (S : Settings) (b : Books) (r : Room) {n : ℕ} → handed-ref
     → n ≡ total-given S b r
 unfolding total-given
 total-known S b r h e = e ∙ sym (if-true _ _ _ (eq-eqb (handed-refusal S b r) 0 h))
+
+pub total-held : (S : Settings) (b : Books) (r : Room) {n : ℕ} → handed-refusal S b r ≡ 0 → n ≡ total-given S b r
+    → n ≡ held b
+unfolding total-given
+total-held S b r h e = e ∙ if-true _ _ _ (eq-eqb (handed-refusal S b r) 0 h)
