@@ -1,4 +1,4 @@
-"""The file of document 01: books and calls as words, and books back from bytes."""
+"""The file of document 01: books and calls as words, and both back from bytes."""
 
 import struct
 from dataclasses import dataclass, field
@@ -42,6 +42,9 @@ HEAD_BOOKS = 1
 HEAD_CALLS = 2
 KIND_HEAD, KIND_COUNT, KIND_LOW, KIND_MIDDLE, KIND_TOP, KIND_BYTES, KIND_FLAG, KIND_END, KIND_CALL = range(1, 10)
 LOW_28 = 2**28 - 1
+
+# bytes of a field
+LENGTHS = {"key": 48, "credentials": 32, "address": 20}
 
 
 @dataclass
@@ -199,6 +202,19 @@ class Reader:
     def queue(self, numbers):
         return [tuple(self.number() for _ in range(numbers)) for _ in range(self.word(KIND_COUNT))]
 
+    def call_field(self, name, kind):
+        if kind == "bytes":
+            return self.bytes(LENGTHS[name])
+        return self.number() if kind == "number" else bool(self.word(KIND_FLAG))
+
+    def call(self):
+        code = self.word(KIND_CALL)
+        fields = [self.call_field(name, kind) for name, kind in CALL_FIELDS.get(code, ())]
+        if code != 8:
+            return (code, *fields)
+        count = self.word(KIND_COUNT)
+        return withdrawals(*((self.number(), self.number(), self.bytes(20), self.number()) for _ in range(count)))
+
 
 def read_books(data):
     reader = Reader(data)
@@ -306,3 +322,9 @@ def calls_words(calls, head=HEAD_CALLS, count=None):
 
 def calls_bytes(calls):
     return calls_words(calls).closed()
+
+
+def read_calls(data):
+    reader = Reader(data)
+    assert reader.word(KIND_HEAD) == HEAD_CALLS
+    return [reader.call() for _ in range(reader.word(KIND_COUNT))]
