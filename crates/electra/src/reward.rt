@@ -44,7 +44,7 @@ pub fn reward(
         };
     }
     let sums = acceptance::sum_within(handed.held, amount);
-    rewards::reward::reward_with_sums(
+    rewards::reward::reward_accepted(
         settings,
         scalars,
         identities,

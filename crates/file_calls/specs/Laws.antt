@@ -1,19 +1,23 @@
 -- The codes of calls, and the promise of the operation that a call of the file is.
 use mathlib.Core.Path.{_≡_, refl, sym, ap, _∙_, subst}
-use mathlib.Core.Bool.{true}
+use mathlib.Core.Bool.{Bool, true}
 use mathlib.Core.List.{List}
 use Prim.Native.Nat.{ℕ, zero, suc, _+_, _≤_, _<_}
 use native.Mathlib.Omega.{arith}
 use lib.ListN.{drop}
+use lib.Dec.{leb}
 use Rattle.rules.specs.Types as rule
+use Rattle.rules.specs.Types.{BOUND}
+use Rattle.rules.specs.Acceptance.{held}
 use Rattle.rules.specs.Calls.{Operation, turn}
 use Rattle.primitives.specs.declared.Scalars.{Scalars}
-use Rattle.records.specs.Books.{Tables, Called}
+use Rattle.records.specs.Books.{Tables, books-of, Called}
+use Rattle.acceptance.specs.Handed.{facts}
 use Rattle.file_format.specs.Words.{words}
 use Rattle.file_format.specs.FieldsLaws.{impossible}
 use Rattle.file_format.specs.Calls.{written, call-format}
 use Rattle.calls_reader.specs.Widths.{code-at, call-value-at, fields-good}
-use Rattle.file_calls.specs.Ready.{CallAt, operation-at}
+use Rattle.file_calls.specs.Ready.{Accepted, Holds, CallAt, operation-at}
 
 -- ---- the call at word k
 
@@ -71,3 +75,14 @@ module _ {file : List ℕ} {k : ℕ} (c : CallAt file k) where
 pub called-as : {S : rule.Settings} {op op₂ : Operation} {s r : Scalars} {t u : Tables} {n : ℕ} → op ≡ op₂
     → Called S op s t u n r → Called S op₂ s t u n r
 called-as {S} {s = s} {r} {t} {u} {n} e c = subst (λ o. Called S o s t u n r) e c
+
+-- ---- the sum that the books hold
+
+-- it is within the bound
+pub sum-small : (S : rule.Settings) (s : Scalars) (t : Tables) {sum : ℕ} → Accepted S s t → Holds s t sum → sum ≤ BOUND
+sum-small S s t h e = omega (arith, e, facts S s t h .books .held-small)
+
+-- whether it stays within the bound with an amount more
+pub within-known : (s : Scalars) (t : Tables) (amount : ℕ) {sum : ℕ} {w : Bool} → Holds s t sum
+    → w ≡ leb (sum + amount) BOUND → w ≡ leb (held (books-of s t) + amount) BOUND
+within-known s t amount e q = q ∙ ap (λ (n : ℕ). leb (n + amount) BOUND) e

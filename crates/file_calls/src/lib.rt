@@ -1,4 +1,6 @@
-// One call of a calls file, carried out on accepted books. The file was judged good, and the call stands at word k.
+// One call of a calls file, carried out on accepted books. The file was judged good, and the call stands at word k. The
+// sum that the books hold comes along, so that no call adds the balances up to judge 41.
+use primitives::Gwei;
 use primitives::Outcome;
 use primitives::Scalars;
 use primitives::Settings;
@@ -7,7 +9,7 @@ ghost use Rattle.primitives.specs.Settings.{settings-of};
 ghost use Rattle.records.specs.Books.{tables, Called};
 ghost use Rattle.file_format.specs.Words.{words};
 ghost use Rattle.calls_reader.specs.Widths.{code-at};
-ghost use Rattle.file_calls.specs.Ready.{Accepted, CallAt, operation-at};
+ghost use Rattle.file_calls.specs.Ready.{Accepted, Holds, CallAt, operation-at};
 
 // Code 1.
 fn reward(
@@ -18,6 +20,7 @@ fn reward(
     deposits: &[u64],
     partials: &[u64],
     consolidations: &[u64],
+    sum: Gwei,
     file: &[u8],
     k: usize,
 ) -> Outcome
@@ -27,6 +30,10 @@ fn reward(
         ⌝ }
     requires { ⌜ CallAt (now file) k ⌝ }
     requires { ⌜ code-at (words (now file)) k ≡ 1 ⌝ }
+    requires { ⌜
+        Holds scalars
+        (tables (now identities) (now validators) (now deposits) (now partials) (now consolidations)) (sum .0)
+        ⌝ }
     ensures { λ r. ⌜
         Called (settings-of settings) (operation-at (now (file .entry)) k) scalars
         (tables (now (identities .entry)) (now (validators .entry)) (now (deposits .entry))
@@ -36,6 +43,7 @@ fn reward(
         ⌝ }
 {
     let call = calls_reader::amount_at(file, k);
+    let sums = acceptance::sum_within(sum, call.amount);
     rewards::reward::reward_accepted(
         settings,
         scalars,
@@ -46,6 +54,7 @@ fn reward(
         consolidations,
         call.i,
         call.amount,
+        sums,
     )
 }
 
@@ -98,6 +107,7 @@ fn deposit_receipt(
     deposits: &mut [u64],
     partials: &[u64],
     consolidations: &[u64],
+    sum: Gwei,
     file: &[u8],
     k: usize,
 ) -> Outcome
@@ -107,6 +117,10 @@ fn deposit_receipt(
         ⌝ }
     requires { ⌜ CallAt (now file) k ⌝ }
     requires { ⌜ code-at (words (now file)) k ≡ 3 ⌝ }
+    requires { ⌜
+        Holds scalars
+        (tables (now identities) (now validators) (now deposits) (now partials) (now consolidations)) (sum .0)
+        ⌝ }
     ensures { λ r. ⌜
         Called (settings-of settings) (operation-at (now (file .entry)) k) scalars
         (tables (now (identities .entry)) (now (validators .entry)) (now (deposits .entry))
@@ -118,6 +132,7 @@ fn deposit_receipt(
     let call = calls_reader::receipt_at(file, k);
     let public_key = call.public_key;
     let withdrawal_credentials = call.withdrawal_credentials;
+    let sums = acceptance::sum_within(sum, call.amount);
     receipt_operations::process_deposit_receipt(
         settings,
         scalars,
@@ -131,6 +146,7 @@ fn deposit_receipt(
         call.amount,
         call.index,
         call.valid,
+        sums,
     )
 }
 
@@ -346,6 +362,7 @@ pub fn carry_out_call(
     deposits: &mut [u64],
     partials: &mut [u64],
     consolidations: &mut [u64],
+    sum: Gwei,
     file: &[u8],
     k: usize,
 ) -> Outcome
@@ -354,6 +371,10 @@ pub fn carry_out_call(
         (tables (now identities) (now validators) (now deposits) (now partials) (now consolidations))
         ⌝ }
     requires { ⌜ CallAt (now file) k ⌝ }
+    requires { ⌜
+        Holds scalars
+        (tables (now identities) (now validators) (now deposits) (now partials) (now consolidations)) (sum .0)
+        ⌝ }
     ensures { λ r. ⌜
         Called (settings-of settings) (operation-at (now (file .entry)) k) scalars
         (tables (now (identities .entry)) (now (validators .entry)) (now (deposits .entry))
@@ -372,6 +393,7 @@ pub fn carry_out_call(
             deposits,
             partials,
             consolidations,
+            sum,
             file,
             k,
         );
@@ -398,6 +420,7 @@ pub fn carry_out_call(
             deposits,
             partials,
             consolidations,
+            sum,
             file,
             k,
         );

@@ -48,7 +48,7 @@ pub fn process_deposit_receipt(
         };
     }
     let sums = acceptance::sum_within(handed.held, amount);
-    receipt_operations::process_receipt_with_sums(
+    receipt_operations::process_deposit_receipt(
         settings,
         scalars,
         identities,

@@ -273,7 +273,7 @@ fn apply_deposit(
 }
 
 // `sums` says whether the result's sums are within the bound.
-pub fn process_receipt_with_sums(
+pub fn process_deposit_receipt(
     settings: Settings,
     scalars: Scalars,
     identities: &mut [u8],
@@ -331,54 +331,4 @@ pub fn process_receipt_with_sums(
         };
     }
     outcome
-}
-
-pub fn process_deposit_receipt(
-    settings: Settings,
-    scalars: Scalars,
-    identities: &mut [u8],
-    validators: &mut [u64],
-    deposits: &mut [u64],
-    partials: &[u64],
-    consolidations: &[u64],
-    public_key: [u8; 48],
-    withdrawal_credentials: [u8; 32],
-    amount: Gwei,
-    index: u64,
-    valid: bool,
-) -> Outcome
-    requires { ⌜
-        handed-refusal (settings-of settings)
-        (books-of scalars
-        (tables (now identities) (now validators) (now deposits) (now partials) (now consolidations)))
-        (room-of (tables (now identities) (now validators) (now deposits) (now partials) (now consolidations)))
-        ≡ 0
-        ⌝ }
-    ensures { λ r. ⌜
-        Called (settings-of settings)
-        (deposit-receipt «public_key» «withdrawal_credentials» (amount .0) index valid) scalars
-        (tables (now (identities .entry)) (now (validators .entry)) (now (deposits .entry))
-        (now (partials .entry)) (now (consolidations .entry)))
-        (tables (now (identities .exit)) (now (validators .exit)) (now (deposits .exit))
-        (now (partials .entry)) (now (consolidations .entry)))
-        (r .number) (r .scalars)
-        ⌝ }
-{
-    let held = acceptance::held(scalars, validators, deposits);
-    let sums = acceptance::sum_within(held, amount);
-    process_receipt_with_sums(
-        settings,
-        scalars,
-        identities,
-        validators,
-        deposits,
-        partials,
-        consolidations,
-        public_key,
-        withdrawal_credentials,
-        amount,
-        index,
-        valid,
-        sums,
-    )
 }

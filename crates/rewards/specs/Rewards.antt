@@ -19,7 +19,7 @@ use Rattle.records.specs.Books.{Tables, tables, books-of, room-of, Called}
 use Rattle.records.specs.Reading.{validators-count}
 use Rattle.records.specs.Stores.{ValidatorAdjusted}
 use Rattle.acceptance.specs.Handed.{facts}
-use Rattle.acceptance.specs.Held.{HeldReady, held-ready, held-form}
+use Rattle.acceptance.specs.Held.{held-form}
 use Rattle.result_sizes.specs.Epoch.{reward-size, penalty-size}
 use Rattle.call_answers.specs.Called.{own-refused, size-refused, call-done, adjusted-stepped}
 
@@ -35,9 +35,6 @@ module _ (S : rule.Settings) (s : Scalars) (t : Tables) (i amount : ℕ)
   in-table p =
       let f = facts S s t h in
       omega (arith, p, f .room .validators, f .books .registry-fits, validators-count s t)
-
-  pub held-known : HeldReady s (t .validators) (t .deposits)
-  held-known = let f = facts S s t h in held-ready S s t (f .room) (f .books)
 
   pub held-small : held (books-of s t) ≤ BOUND
   held-small = facts S s t h .books .held-small

@@ -15,7 +15,7 @@ ghost use Rattle.primitives.specs.Settings.{settings-of};
 ghost use Rattle.records.specs.Books.{tables, books-of, room-of, Called};
 
 // On books that the tests accepted. `sums` says whether the result's sums are within the bound.
-pub fn reward_with_sums(
+pub fn reward_accepted(
     settings: Settings,
     scalars: Scalars,
     identities: &[u8],
@@ -65,47 +65,4 @@ pub fn reward_with_sums(
         number: answers::DONE,
         scalars,
     }
-}
-
-// On books that the tests accepted.
-pub fn reward_accepted(
-    settings: Settings,
-    scalars: Scalars,
-    identities: &[u8],
-    validators: &mut [u64],
-    deposits: &[u64],
-    partials: &[u64],
-    consolidations: &[u64],
-    i: ValidatorIndex,
-    amount: Gwei,
-) -> Outcome
-    requires { ⌜
-        handed-refusal (settings-of settings)
-        (books-of scalars
-        (tables (now identities) (now validators) (now deposits) (now partials) (now consolidations)))
-        (room-of (tables (now identities) (now validators) (now deposits) (now partials) (now consolidations)))
-        ≡ 0
-        ⌝ }
-    ensures { λ r. ⌜
-        Called (settings-of settings) (reward (i .0) (amount .0)) scalars
-        (tables (now (identities .entry)) (now (validators .entry)) (now (deposits .entry))
-        (now (partials .entry)) (now (consolidations .entry)))
-        (tables (now (identities .entry)) (now (validators .exit)) (now (deposits .entry))
-        (now (partials .entry)) (now (consolidations .entry))) (r .number) (r .scalars)
-        ⌝ }
-{
-    let held = acceptance::held(scalars, validators, deposits);
-    let sums = acceptance::sum_within(held, amount);
-    reward_with_sums(
-        settings,
-        scalars,
-        identities,
-        validators,
-        deposits,
-        partials,
-        consolidations,
-        i,
-        amount,
-        sums,
-    )
 }

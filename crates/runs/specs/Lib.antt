@@ -1,5 +1,6 @@
 pub mod Lines
 pub mod InPlace
+pub mod Sums
 pub mod Promise
 pub mod Ready
 pub mod Steps

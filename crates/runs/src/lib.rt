@@ -1,6 +1,8 @@
 // The calls of a file, carried out on lent books that are tested once.
 pub mod lines; // one call with its line in the results
+pub mod sums; // the sum that the books hold, carried from call to call
 
+use primitives::Gwei;
 use primitives::Scalars;
 use primitives::Settings;
 use primitives::answers;
@@ -8,7 +10,7 @@ ghost use Prim.Native.Nat.{_*_, _≤_};
 ghost use lib.ListN.{length};
 ghost use Rattle.primitives.specs.Settings.{settings-of};
 ghost use Rattle.records.specs.Books.{tables};
-ghost use Rattle.file_calls.specs.Ready.{Accepted};
+ghost use Rattle.file_calls.specs.Ready.{Accepted, Holds};
 ghost use Rattle.runs.specs.Ready.{CallsAt, operations-at};
 ghost use Rattle.runs.specs.Promise.{Done, CarriedOut};
 
@@ -20,7 +22,7 @@ pub struct Carried {
     pub count: usize,
 }
 
-// The n calls of a file that was judged good.
+// The n calls of a file that was judged good, on books that hold `opening`.
 fn carry_out_calls(
     settings: Settings,
     scalars: Scalars,
@@ -29,6 +31,7 @@ fn carry_out_calls(
     deposits: &mut [u64],
     partials: &mut [u64],
     consolidations: &mut [u64],
+    opening: Gwei,
     file: &[u8],
     n: usize,
     results: &mut [u64],
@@ -39,6 +42,10 @@ fn carry_out_calls(
         ⌝ }
     requires { ⌜ CallsAt (now file) n ⌝ }
     requires { ⌜ 3 * n ≤ length (now results) ⌝ }
+    requires { ⌜
+        Holds scalars
+        (tables (now identities) (now validators) (now deposits) (now partials) (now consolidations)) (opening .0)
+        ⌝ }
     ensures { λ r. ⌜
         Done (settings-of settings) scalars
         (tables (now (identities .entry)) (now (validators .entry)) (now (deposits .entry))
@@ -49,10 +56,11 @@ fn carry_out_calls(
         ⌝ }
 {
     let mut after = scalars;
+    let mut sum = opening;
     let mut k: usize = 2;
     let mut i: usize = 0;
     while i < n {
-        after = lines::carry_out_line(
+        let done = lines::carry_out_line(
             settings,
             after,
             identities,
@@ -60,11 +68,14 @@ fn carry_out_calls(
             deposits,
             partials,
             consolidations,
+            sum,
             file,
             k,
             results,
             i,
         );
+        after = done.scalars;
+        sum = done.sum;
         k = calls_reader::next_call(file, k);
         i += 1;
     }
@@ -93,7 +104,7 @@ pub fn carry_out(
         (now (file .entry)) (now (results .entry)) (now (results .exit)) (r .number) (r .scalars) (r .count)
         ⌝ }
 {
-    let handed = acceptance::handed(
+    let handed = acceptance::accept(
         settings,
         scalars,
         identities,
@@ -102,9 +113,9 @@ pub fn carry_out(
         partials,
         consolidations,
     );
-    if handed != answers::DONE {
+    if handed.number != answers::DONE {
         return Carried {
-            number: handed,
+            number: handed.number,
             scalars,
             count: 0,
         };
@@ -132,6 +143,7 @@ pub fn carry_out(
         deposits,
         partials,
         consolidations,
+        handed.held,
         file,
         count,
         results,

@@ -13,9 +13,12 @@ reward-requires c κs =
     .pre in (
       h .0,
       (
-        h .1,
-        sym (c .before .before .before .before .before .before .code-at .ensures) ∙ c .before .before
-            .before .before .before .if1 .taken,
+        h .1 .0,
+        (
+          sym (c .before .before .before .before .before .before .code-at .ensures) ∙ c .before .before
+              .before .before .before .if1 .taken,
+          h .1 .1,
+        ),
       ),
     )
 
@@ -43,7 +46,7 @@ penalty-requires c κs =
     .before .pre in (
       h .0,
       (
-        h .1,
+        h .1 .0,
         sym (c .before .before .before .before .before .before .before .code-at .ensures) ∙ c .before
             .before .before .before .before .if2 .taken,
       ),
@@ -73,9 +76,12 @@ deposit-receipt-requires c κs =
     .before .before .pre in (
       h .0,
       (
-        h .1,
-        sym (c .before .before .before .before .before .before .before .before .code-at .ensures) ∙ c
-            .before .before .before .before .before .if3 .taken,
+        h .1 .0,
+        (
+          sym (c .before .before .before .before .before .before .before .before .code-at .ensures) ∙ c
+              .before .before .before .before .before .if3 .taken,
+          h .1 .1,
+        ),
       ),
     )
 
@@ -103,7 +109,7 @@ voluntary-exit-requires c κs =
     .before .before .before .pre in (
       h .0,
       (
-        h .1,
+        h .1 .0,
         sym (c .before .before .before .before .before .before .before .before .before .code-at .ensures) ∙
             c .before .before .before .before .before .if4 .taken,
       ),
@@ -133,7 +139,7 @@ withdrawal-request-requires c κs =
     .before .before .before .before .pre in (
       h .0,
       (
-        h .1,
+        h .1 .0,
         sym (c .before .before .before .before .before .before .before .before .before .before .code-at
             .ensures) ∙ c .before .before .before .before .before .if5 .taken,
       ),
@@ -163,7 +169,7 @@ consolidation-requires c κs =
     .before .before .before .before .before .pre in (
       h .0,
       (
-        h .1,
+        h .1 .0,
         sym (c .before .before .before .before .before .before .before .before .before .before .before
             .code-at .ensures) ∙ c .before .before .before .before .before .if6 .taken,
       ),
@@ -193,7 +199,7 @@ turn-requires c κs =
     .before .before .before .before .before .before .pre in (
       h .0,
       (
-        h .1,
+        h .1 .0,
         sym (c .before .before .before .before .before .before .before .before .before .before .before
             .before .code-at .ensures) ∙ c .before .before .before .before .before .if7 .taken,
       ),
@@ -224,11 +230,11 @@ withdrawals-requires c κs =
     let h = c .before .before .before .before .before .before .before .before .before .before .before .before .before
     .before .before .before .before .before .before .pre in
     let last =
-    code-last (h .1) (first .before .code-at .ensures) (first .if1 .left) (second .before .before .before .if2 .left)
+    code-last (h .1 .0) (first .before .code-at .ensures) (first .if1 .left) (second .before .before .before .if2 .left)
     (second .before .before .if3 .left)
     (second .before .if4 .left) (second .if5 .left) (c .before .before .before .before .before .before .if6 .left) (c
     .before .before .before .before .before .if7 .left) in
-    (h .0, (h .1, last))
+    (h .0, (h .1 .0, last))
 
 same-length-36 : tie.Need-same-length-36
 same-length-36 c = search needs

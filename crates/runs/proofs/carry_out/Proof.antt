@@ -2,12 +2,13 @@ use mathlib.Core.Path.{sym, _∙_}
 use native.Mathlib.Omega.{arith}
 use borrow.Author.Tests.{not-true, not-false}
 use borrow.Author.Needs.{needs}
+use Rattle.acceptance.specs.Total.{total-held}
 use Rattle.runs.specs.Answers.{calls-there, books-refused, file-refused, results-refused, all-done}
 use Rattle.runs.proofs.carry_out.Statement.{statement}
 use Rattle.runs.proofs.carry_out.Tie as tie
 
-handed-requires : tie.Need-handed-requires
-handed-requires c κs = search needs
+accept-requires : tie.Need-accept-requires
+accept-requires c κs = search needs
 
 same-length : tie.Need-same-length
 same-length c = search needs
@@ -25,7 +26,7 @@ same-length-5 : tie.Need-same-length-5
 same-length-5 c = search needs
 
 returns : tie.Need-returns
-returns c = books-refused _ _ _ _ _ _ (c .before .handed .ensures) (c .if1 .taken)
+returns c = books-refused _ _ _ _ _ _ (c .before .before .accept .ensures .0) (c .if1 .taken)
 
 calls-file-ok-requires : tie.Need-calls-file-ok-requires
 calls-file-ok-requires c κs = search needs
@@ -47,7 +48,8 @@ same-length-10 c = search needs
 
 returns-2 : tie.Need-returns-2
 returns-2 c =
-    file-refused _ _ _ _ _ (sym (c .before .before .before .handed .ensures) ∙ c .before .before .if1 .left)
+    let judged = c .before .before in
+    file-refused _ _ _ _ _ (sym (judged .before .before .accept .ensures .0) ∙ judged .if1 .left)
     (sym (c .before .calls-file-ok .ensures) ∙ not-true _ (c .if2 .taken))
 
 calls-count-requires : tie.Need-calls-count-requires
@@ -70,22 +72,24 @@ same-length-15 c = search needs
 
 returns-3 : tie.Need-returns-3
 returns-3 c =
-    let h = sym (c .before .before .before .before .before .handed .ensures) ∙ c .before .before .before .before .if1
-    .left in
-    let good = sym (c .before .before .before .calls-file-ok .ensures) ∙ not-false _ (c .before .before .if2 .left) in
+    let whole = c .before .before in
+    let judged = whole .before .before in
+    let h = sym (judged .before .before .accept .ensures .0) ∙ judged .if1 .left in
+    let good = sym (whole .before .calls-file-ok .ensures) ∙ not-false _ (whole .if2 .left) in
     results-refused _ _ _ _ _ h good (c .before .calls-count .ensures) (c .if3 .taken)
 
 carry-out-calls-requires : tie.Need-carry-out-calls-requires
 carry-out-calls-requires c κs =
-    let h = sym (c .before .before .before .before .before .before .before .before .before .before .before .handed
-    .ensures) ∙ c .before .before .before .before .before .before .before .before .before .before .if1 .left in
-    let good = sym (c .before .before .before .before .before .before .before .before .before .calls-file-ok
-    .ensures) ∙ not-false _ (c .before .before .before .before .before .before .before .before .if2 .left) in (
+    let room = c .before .before .before .before .before .before in
+    let whole = room .before .before in
+    let judged = whole .before .before in
+    let accept = judged .before .before .accept in
+    let h = sym (accept .ensures .0) ∙ judged .if1 .left in
+    let good = sym (whole .before .calls-file-ok .ensures) ∙ not-false _ (whole .if2 .left) in (
       h,
       (
-        calls-there good (c .before .before .before .before .before .before .before .calls-count .ensures),
-        omega
-            (arith, c .before .before .before .before .before .before .if3 .left),
+        calls-there good (room .before .calls-count .ensures),
+        (omega (arith, room .if3 .left), total-held _ _ _ h (accept .ensures .1)),
       ),
     )
 
@@ -109,26 +113,21 @@ same-length-21 c = search needs
 
 returns-4 : tie.Need-returns-4
 returns-4 c =
-    let h = sym (c .before .before .before .before .before .before .before .before .before .before .before .before
-    .before .before .before .before .before .before .before .before .before .before .before .before .handed .ensures)
-    ∙ c .before .before .before .before .before .before .before .before .before .before .before .before .before
-    .before .before .before .before .before .before .before .before .before .before .if1 .left in
-    let good = sym (c .before .before .before .before .before .before .before .before .before .before .before .before
-    .before .before .before .before .before .before .before .before .before .before .calls-file-ok .ensures) ∙
-    not-false _ (c .before .before .before .before .before .before .before .before .before .before .before .before
-    .before .before .before .before .before .before .before .before .before .if2 .left) in
-    all-done _ _ _ _ _ h good (c .before .before .before .before .before .before .before .before .before .before
-    .before .before .before .before .before .before .before .before .before .before .calls-count .ensures) (c .before
-    .before .before .before .before .before .before .before .before .before .before .before .before .before .before
-    .before .before .before .before .if3 .left)
-    (c .before .before .before .before .before .before .before .before .before .before .before .before
-    .carry-out-calls .ensures)
+    let at-calls = c .before .before .before .before .before .before .before .before .before .before .before .before
+    in
+    let room = at-calls .before .before .before .before .before .before .before in
+    let whole = room .before .before in
+    let judged = whole .before .before in
+    let h = sym (judged .before .before .accept .ensures .0) ∙ judged .if1 .left in
+    let good = sym (whole .before .calls-file-ok .ensures) ∙ not-false _ (whole .if2 .left) in
+    all-done _ _ _ _ _ h good (room .before .calls-count .ensures) (room .if3 .left)
+    (at-calls .carry-out-calls .ensures)
 
 pub carry-out-spec : {M : Type 1} → statement M
 carry-out-spec =
     tie.close
     (tie.spec
-    handed-requires
+    accept-requires
     same-length
     same-length-2
     same-length-3

@@ -47,8 +47,8 @@ module _ (c : tie.Else1) where
 sum-within-requires : tie.Need-sum-within-requires
 sum-within-requires c κs = small c
 
-reward-with-sums-requires : tie.Need-reward-with-sums-requires
-reward-with-sums-requires c κs =
+reward-accepted-requires : tie.Need-reward-accepted-requires
+reward-accepted-requires c κs =
     let w = c .before in
     let e = w .before in (
       accepted e,
@@ -70,6 +70,6 @@ reward-spec =
     same-length
     returns
     sum-within-requires
-    reward-with-sums-requires
+    reward-accepted-requires
     same-length-2
     returns-2)

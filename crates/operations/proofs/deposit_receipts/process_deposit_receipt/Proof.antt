@@ -53,8 +53,8 @@ module _ (c : tie.Else1) where
 sum-within-requires : tie.Need-sum-within-requires
 sum-within-requires c κs = small c
 
-process-receipt-with-sums-requires : tie.Need-process-receipt-with-sums-requires
-process-receipt-with-sums-requires c κs =
+process-deposit-receipt-requires : tie.Need-process-deposit-receipt-requires
+process-deposit-receipt-requires c κs =
     let w = c .before .before .before in
     let e = w .before in (
       accepted e,
@@ -72,7 +72,7 @@ same-length-6 : tie.Need-same-length-6
 same-length-6 c = search needs
 
 returns-2 : tie.Need-returns-2
-returns-2 c = c .before .before .before .before .before .before .process-receipt-with-sums .ensures
+returns-2 c = c .before .before .before .before .before .before .process-deposit-receipt .ensures
 
 pub process-deposit-receipt-spec : {M : Type 1} → statement M
 process-deposit-receipt-spec =
@@ -84,7 +84,7 @@ process-deposit-receipt-spec =
     same-length-3
     returns
     sum-within-requires
-    process-receipt-with-sums-requires
+    process-deposit-receipt-requires
     same-length-4
     same-length-5
     same-length-6
