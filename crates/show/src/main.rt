@@ -331,9 +331,12 @@ fn end(reading: Reading, buf: &mut [u8; 65536], out: &mut [u8; 65536]) {
     pattern::flush(last, out);
     if good {
         io::write_all(STDOUT_FILENO, b"end\n");
-    } else {
-        io::write_all(STDOUT_FILENO, b"\nbroken\n");
+        return;
     }
+    if pattern::within_line(last, out) {
+        io::write_all(STDOUT_FILENO, b"\n");
+    }
+    io::write_all(STDOUT_FILENO, b"broken\n");
 }
 
 fn file(fd: i32) {

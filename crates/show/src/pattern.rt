@@ -25,6 +25,14 @@ pub fn flush(reading: Reading, out: &[u8]) {
     io::write_all(STDOUT_FILENO, &out[..n]);
 }
 
+// Whether the text so far ends within a line.
+pub fn within_line(reading: Reading, out: &[u8; 65536]) -> bool {
+    if reading.at == 0 {
+        return false;
+    }
+    out[(reading.at - 1) % 65536] != b'\n'
+}
+
 fn put_decimal(reading: Reading, out: &mut [u8; 65536], n: u64) -> Reading {
     let mut digits = [0u8; 20];
     let count = io::decimal(n, &mut digits);
@@ -52,6 +60,7 @@ fn put_byte(reading: Reading, out: &mut [u8; 65536], b: u32) -> Reading {
     put_nibble(high, out, b)
 }
 
+// Nothing is put where a word of a field is not as it should be, here and below.
 fn put_number(reading: Reading, buf: &mut [u8; 65536], out: &mut [u8; 65536]) -> Reading {
     let low = next(reading, buf);
     let middle = next(low, buf);
@@ -59,31 +68,34 @@ fn put_number(reading: Reading, buf: &mut [u8; 65536], out: &mut [u8; 65536]) ->
     let good = file_words::is_word(3, 0x1000_0000, low.word)
         & file_words::is_word(4, 0x1000_0000, middle.word)
         & file_words::is_word(5, 256, top.word);
+    let r = top.only_if(good);
+    if !r.good {
+        return r;
+    }
     let l = low.word as u64 % 0x1000_0000;
     let m = middle.word as u64 % 0x1000_0000;
     let t = top.word as u64 % 256;
-    put_decimal(
-        top.only_if(good),
-        out,
-        t * 0x100_0000_0000_0000 + m * 0x1000_0000 + l,
-    )
+    put_decimal(r, out, t * 0x100_0000_0000_0000 + m * 0x1000_0000 + l)
 }
 
 fn put_flag(reading: Reading, buf: &mut [u8; 65536], out: &mut [u8; 65536]) -> Reading {
-    let r = next(reading, buf);
-    let good = file_words::is_word(7, 2, r.word);
-    put_decimal(r.only_if(good), out, r.word as u64 % 0x1000_0000)
+    let word = next(reading, buf);
+    let r = word.only_if(file_words::is_word(7, 2, word.word));
+    if !r.good {
+        return r;
+    }
+    put_decimal(r, out, r.word as u64 % 0x1000_0000)
 }
 
 // The next three bytes, of which n belong to the field; the others are zero.
 fn put_three(reading: Reading, buf: &mut [u8; 65536], out: &mut [u8; 65536], n: usize) -> Reading {
-    let r = next(reading, buf);
-    let w = r.word;
-    let first = put_byte(
-        r.only_if(file_words::is_word(6, 0x100_0000, w)),
-        out,
-        w / 65536 % 256,
-    );
+    let word = next(reading, buf);
+    let w = word.word;
+    let r = word.only_if(file_words::is_word(6, 0x100_0000, w));
+    if !r.good {
+        return r;
+    }
+    let first = put_byte(r, out, w / 65536 % 256);
     if n == 1 {
         return first.only_if(w % 65536 == 0);
     }
