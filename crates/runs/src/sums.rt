@@ -37,7 +37,8 @@ pub fn penalty_taken(scalars: Scalars, validators: &[u64], file: &[u8], k: usize
     primitives::min(call.amount, balance)
 }
 
-// The sum after the call at word k, which answered `number` and left the scalars `after`; `taken` is what a penalty took.
+// The sum after the call at word k, which answered `number` and left the scalars `after`; `taken` is what a penalty
+// took.
 pub fn held_after(
     sum: Gwei,
     taken: Gwei,
