@@ -31,11 +31,11 @@ static void open_books(void) {
     b.scalars[0] = 1000;
     b.scalars[9] = 1;
     b.scalars[SOLARBASIL_SCALARS] = 99;
-    b.identities[48] = 1;
-    b.validators[1] = 32 * G;
-    b.validators[4] = SOLARBASIL_FAR;
-    b.validators[5] = SOLARBASIL_FAR;
-    b.validators[6] = 40 * G;
+    b.identities[48 * LIMIT] = 1;
+    b.validators[1 * LIMIT] = 32 * G;
+    b.validators[4 * LIMIT] = SOLARBASIL_FAR;
+    b.validators[5 * LIMIT] = SOLARBASIL_FAR;
+    b.validators[6 * LIMIT] = 40 * G;
     opened = b;
 }
 

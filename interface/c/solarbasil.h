@@ -20,9 +20,13 @@
  *                   earliest_exit_epoch, consolidation_balance_to_consume, earliest_consolidation_epoch, then how many
  *                   validators, deposits, partials and consolidations there are. Fewer than 13 are answered 3; what
  *                   stands past them stays as it is.
- *   identities      80 bytes a validator: public key (48), withdrawal credentials (32)
- *   validators      7 numbers a validator: slashed (0 or 1), effective balance, activation eligibility epoch,
- *                   activation epoch, exit epoch, withdrawable epoch, balance
+ *   identities      80 bytes a validator, in two columns: the public keys of the F validators that fit (F is the length
+ *                   divided by 80), 48 bytes each, then their withdrawal credentials, 32 bytes each. The key of
+ *                   validator i begins at byte 48 i, its credentials at byte 48 F + 32 i.
+ *   validators      7 numbers a validator, in seven columns of F numbers (F is the length divided by 7): slashed (0 or
+ *                   1), effective balance, activation eligibility epoch, activation epoch, exit epoch, withdrawable
+ *                   epoch, balance. Number k of validator i, from 0 on, stands at k F + i. A buffer of another length
+ *                   has its columns elsewhere: books are not moved by lending more of it.
  *   deposits        2 numbers an entry: validator, amount
  *   partials        3 numbers an entry: validator, amount, withdrawable epoch
  *   consolidations  2 numbers an entry: source, target

@@ -4,7 +4,7 @@ use mathlib.Core.Bool.{true}
 use mathlib.Core.List.{List, [], _∷_, _++_, append-nil}
 use Prim.Native.Nat.{ℕ, _+_, _*_, _≤_, _<_}
 use native.Mathlib.Omega.{arith}
-use lib.ListN.{length, drop, length-append, length-take, length-drop}
+use lib.ListN.{length, length-append}
 use borrow.Author.Tests.{leb-true}
 use Rattle.lists.specs.Base.{every}
 use Rattle.tables.specs.Rows.{rows, length-rows}
@@ -13,6 +13,7 @@ use Rattle.rules.specs.Types as rule
 use Rattle.rules.specs.Acceptance.{is-flag}
 use Rattle.records.specs.Layout.{validator-at, slashed-at}
 use Rattle.records.specs.Layout.{identities-fit}
+use Rattle.records.specs.Stores.{key-length, credentials-length}
 use Rattle.records.specs.declared.validator.Validator.{Validator}
 use Rattle.records.specs.Plain.{plain-validator}
 use Rattle.file_format.specs.Words.{word}
@@ -43,9 +44,7 @@ validator-length v p q =
 pub validator-at-length : (ids ws : List ℕ) (i : ℕ) → i < identities-fit ids
     → length (validator .write (validator-at ids ws i)) ≡ 46
 validator-at-length ids ws i h =
-    validator-length (validator-at ids ws i)
-    (omega (arith, length-take 48 (drop (80 * i) ids), length-drop (80 * i) ids))
-    (omega (arith, length-take 32 (drop (80 * i + 48) ids), length-drop (80 * i + 48) ids))
+    validator-length (validator-at ids ws i) (key-length ids i h) (credentials-length ids i h)
 
 pub deposit-length : (d : rule.PendingBalanceDeposit) → length (deposit .write d) ≡ 6
 unfolding deposit many number

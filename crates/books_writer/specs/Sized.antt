@@ -10,8 +10,9 @@ use Rattle.lists.specs.Base.{every}
 use Rattle.lists.specs.Laws.{both, join, every-drop}
 use Rattle.tables.specs.Rows.{rows}
 use Rattle.primitives.specs.declared.Scalars.{Scalars}
-use Rattle.records.specs.Layout.{validator-at}
+use Rattle.records.specs.Layout.{validator-at, public-key-at, withdrawal-credentials-at, identities-fit}
 use Rattle.records.specs.Books.{Tables, books-of}
+use Rattle.records.specs.Stores.{key-read, credentials-read}
 use Rattle.file_format.specs.Words.{is-byte}
 use Rattle.file_format.specs.Fields.{is-field}
 use Rattle.file_format.specs.Books.{bytes-sized, sized}
@@ -51,6 +52,11 @@ tables-sized s t k e h =
     let ids = t .identities in
     let one : (i : ℕ) → i < s .validators → bytes-sized (validator-at ids (t .validators) i) ≡ true =
     λ i p.
-    join (part-bytes 48 (80 * i) ids (omega (arith, k .identities)) e)
-    (part-bytes 32 (80 * i + 48) ids (omega (arith, k .identities)) e) in
+    let fits : i < identities-fit ids = omega (arith, k .identities) in
+    let place = 48 * identities-fit ids + 32 * i in
+    let key : is-field 48 (public-key-at ids i) ≡ true =
+    rw (key-read ids i fits) at (part-bytes 48 (48 * i) ids (omega arith) e) in
+    let credentials : is-field 32 (withdrawal-credentials-at ids i) ≡ true =
+    rw (credentials-read ids i fits) at (part-bytes 32 place ids (omega arith) e) in
+    join key credentials in
     join (every-rows bytes-sized (s .validators) (validator-at ids (t .validators)) one) (lt-ltb _ _ h)

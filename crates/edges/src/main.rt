@@ -45,30 +45,31 @@ fn scalars(deposits: usize, consolidations: usize) -> Scalars {
     }
 }
 
-// Two validators that are active since epoch 0, with effective balances of 32 G; the second has 40 G.
+// Two validators that are active since epoch 0, with effective balances of 32 G; the second has 40 G. By columns: word
+// k of validator i stands at 2 k + i.
 fn validators(balance: u64) -> [u64; 14] {
     [
         0,
+        0,
+        32 * G,
         32 * G,
         0,
         0,
+        0,
+        0,
+        FAR_FUTURE_EPOCH,
+        FAR_FUTURE_EPOCH,
         FAR_FUTURE_EPOCH,
         FAR_FUTURE_EPOCH,
         balance,
-        0,
-        32 * G,
-        0,
-        0,
-        FAR_FUTURE_EPOCH,
-        FAR_FUTURE_EPOCH,
         40 * G,
     ]
 }
 
-// Credentials of prefix 02 for both, or 01 for both.
+// Credentials of prefix 02 for both, or 01 for both, behind the two keys.
 fn identities(prefix: u8) -> [u8; 160] {
     let mut out = [0u8; 160];
-    out[48] = prefix;
+    out[96] = prefix;
     out[128] = prefix;
     out
 }
@@ -108,7 +109,7 @@ fn deposit_step(amount: u64) {
         &cs,
     );
     number(r.number as u64);
-    number(vs[6]);
+    number(vs[12]);
     let s = r.scalars;
     number(s.deposits as u64);
     number(s.deposit_balance_to_consume.0);
@@ -132,7 +133,7 @@ fn effective_step(balance: u64) {
         &cs,
     );
     number(r.number as u64);
-    number(vs[1]);
+    number(vs[2]);
     end();
 }
 
@@ -142,8 +143,8 @@ fn consolidation_step(slashed: u64, withdrawable: u64) {
     let mut ids = identities(1);
     let mut vs = validators(32 * G);
     vs[0] = slashed;
-    vs[4] = 990;
-    vs[5] = withdrawable;
+    vs[8] = 990;
+    vs[10] = withdrawable;
     let mut ds = [0u64; 8];
     let ps = [0u64; 3];
     let mut cs: [u64; 4] = [0, 1, 0, 0];
@@ -184,7 +185,7 @@ fn turn(epoch: u64) {
         &mut cs,
     );
     number(r.number as u64);
-    number(vs[6]);
+    number(vs[12]);
     let s = r.scalars;
     number(s.epoch.0);
     let t = electra::total::held(settings, s, &ids, &vs, &ds, &ps, &cs);
@@ -212,7 +213,7 @@ fn reward(i: usize, amount: u64) {
         Gwei(amount),
     );
     number(r.number as u64);
-    number(vs[6]);
+    number(vs[12]);
     end();
 }
 
@@ -235,7 +236,7 @@ fn penalty(amount: u64) {
         Gwei(amount),
     );
     number(r.number as u64);
-    number(vs[6]);
+    number(vs[12]);
     end();
 }
 
@@ -290,7 +291,7 @@ fn request(amount: u64) {
         Gwei(amount),
     );
     number(r.number as u64);
-    number(vs[4]);
+    number(vs[8]);
     let s = r.scalars;
     number(s.partials as u64);
     end();
@@ -320,8 +321,8 @@ fn consolidation(epoch: u64) {
         true,
     );
     number(r.number as u64);
-    number(vs[4]);
-    number(vs[5]);
+    number(vs[8]);
+    number(vs[10]);
     let s = r.scalars;
     number(s.consolidation_balance_to_consume.0);
     end();

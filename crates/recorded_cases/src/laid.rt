@@ -8,7 +8,11 @@ use primitives::Scalars;
 use primitives::Settings;
 use primitives::ValidatorIndex;
 use primitives::WithdrawalIndex;
-ghost use Prim.Native.Nat.{_<_, _≤_, _^_};
+use records::registry::credentials_place;
+use records::registry::identities_fit;
+use records::registry::put_words;
+use records::registry::validators_fit;
+ghost use Prim.Native.Nat.{_+_, _<_, _≤_, _^_};
 
 fn put(table: &mut [u64], at: usize, n: u64) {
     if at < table.len() {
@@ -64,7 +68,7 @@ fn lay_numbers(file: &[u8], k: usize, n: usize, table: &mut [u64], at: usize)
 fn lay_bytes(file: &[u8], k: usize, n: usize, table: &mut [u8], at: usize)
     requires { ⌜ k ≤ 2 ^ 40 ⌝ }
     requires { ⌜ n ≤ 2 ^ 40 ⌝ }
-    requires { ⌜ at ≤ 2 ^ 40 ⌝ }
+    requires { ⌜ at + n < 2 ^ 64 ⌝ }
 {
     let mut j: usize = 0;
     while j < n {
@@ -73,16 +77,44 @@ fn lay_bytes(file: &[u8], k: usize, n: usize, table: &mut [u8], at: usize)
     }
 }
 
+fn lay_identity(file: &[u8], k: usize, identities: &mut [u8], i: usize)
+    requires { ⌜ k ≤ 2 ^ 38 ⌝ }
+{
+    if identities_fit(identities) <= i {
+        return;
+    }
+    let credentials = credentials_place(identities, ValidatorIndex(i));
+    lay_bytes(file, k, 48, identities, 48 * i);
+    lay_bytes(file, k + 16, 32, identities, credentials);
+}
+
+fn lay_words(file: &[u8], k: usize, validators: &mut [u64], i: usize)
+    requires { ⌜ k ≤ 2 ^ 38 ⌝ }
+{
+    if validators_fit(validators) <= i {
+        return;
+    }
+    put_words(
+        validators,
+        i,
+        count(file, k + 27) as u64,
+        number(file, k + 28),
+        number(file, k + 31),
+        number(file, k + 34),
+        number(file, k + 37),
+        number(file, k + 40),
+        number(file, k + 43),
+    );
+}
+
 fn lay_validators(file: &[u8], n: usize, identities: &mut [u8], validators: &mut [u64])
     requires { ⌜ n ≤ 2 ^ 28 ⌝ }
 {
     let mut i: usize = 0;
     while i < n {
         let k = 86 + i * 46;
-        lay_bytes(file, k, 48, identities, i * 80);
-        lay_bytes(file, k + 16, 32, identities, i * 80 + 48);
-        put(validators, i * 7, count(file, k + 27) as u64);
-        lay_numbers(file, k + 28, 6, validators, i * 7 + 1);
+        lay_identity(file, k, identities, i);
+        lay_words(file, k, validators, i);
         i += 1;
     }
 }

@@ -1,10 +1,8 @@
 -- The books that scalars and tables hold, and what functions on them promise.
-use mathlib.Core.Path.{_≡_, refl, ap, sym, _∙_}
+use mathlib.Core.Path.{_≡_, refl, _∙_}
 use mathlib.Core.List.{List}
-use Prim.Native.Nat.{ℕ, _+_, _-_, _*_, _≤_, min}
+use Prim.Native.Nat.{ℕ, _*_, _≤_, min}
 use native.Mathlib.Omega.{arith}
-use lib.ListN.{drop}
-use lib.Seq.{drop-drop}
 use borrow.Author.Tests.{ne-eqb}
 use Rattle.lists.specs.Base.{if_then_else_}
 use Rattle.tables.specs.Rows.{rows}
@@ -15,6 +13,7 @@ use Rattle.records.specs.Layout.{validator-at, deposit-at, partial-at, c
 use Rattle.records.specs.Layout.{identities-fit, validators-fit, deposits-fit, partials-fit, consolidations-fit}
 use Rattle.records.specs.Layout.{identities-past, validators-past, deposits-past, partials-past}
 use Rattle.records.specs.Layout.{consolidations-past}
+use Rattle.records.specs.Past.{drop-more, validators-past-more, identities-past-more}
 
 -- what the five lent buffers hold
 pub record Tables : Type 0 where
@@ -105,21 +104,17 @@ pub record AtMost (r q : Scalars) : Type 0 where
   pub partials : r .partials ≤ q .partials
   pub consolidations : r .consolidations ≤ q .consolidations
 
--- what agrees past the first m words agrees past the first n
-drop-more : (m n : ℕ) (l k : List ℕ) → m ≤ n → drop m l ≡ drop m k → drop n l ≡ drop n k
-drop-more m n l k h e =
-    let q : m + (n - m) ≡ n = omega arith in
-    rw (← q) (sym (drop-drop (n - m) m l) ∙ ap (drop (n - m)) e ∙ drop-drop (n - m) m k)
-
 -- two steps, of which the second counts no fewer records
 pub beyond-then : {r q : Scalars} {t u w : Tables} → AtMost r q → Beyond r u t → Beyond q w u → Beyond q w t
 beyond-then {r} {q} {t} {u} {w} m f g = record {
   identities =
       g .identities
-      ∙ drop-more (80 * r .validators) (80 * q .validators) (u .identities) (t .identities) v₈₀ (f .identities);
+      ∙ identities-past-more (r .validators) (q .validators) (u .identities) (t .identities) (m .validators)
+      (f .identities);
   validators =
       g .validators
-      ∙ drop-more (7 * r .validators) (7 * q .validators) (u .validators) (t .validators) v₇ (f .validators);
+      ∙ validators-past-more (r .validators) (q .validators) (u .validators) (t .validators) (m .validators)
+      (f .validators);
   deposits =
       g .deposits ∙ drop-more (2 * r .deposits) (2 * q .deposits) (u .deposits) (t .deposits) d₂ (f .deposits);
   partials =
@@ -130,12 +125,6 @@ beyond-then {r} {q} {t} {u} {w} m f g = record {
       (f .consolidations);
 }
   where
-    v₈₀ : 80 * r .validators ≤ 80 * q .validators
-    v₈₀ = omega (arith, m .validators)
-
-    v₇ : 7 * r .validators ≤ 7 * q .validators
-    v₇ = omega (arith, m .validators)
-
     d₂ : 2 * r .deposits ≤ 2 * q .deposits
     d₂ = omega (arith, m .deposits)
 

@@ -1,19 +1,21 @@
 -- A call's promise fixes its number, its scalars, and every byte and word of the buffers.
-use mathlib.Core.Path.{_≡_, refl, ap, sym, _∙_}
+use mathlib.Core.Path.{_≡_, refl, ap, ap₂, sym, _∙_}
 use mathlib.Core.Bool.{Bool, true, false}
-use mathlib.Core.List.{List}
+use mathlib.Core.List.{List, [], _++_}
 use Prim.Native.Nat.{ℕ, zero, suc, _+_, _-_, _*_, _/_, _%_, _≤_, _<_}
 use native.Mathlib.Omega.{arith}
 use lib.Dec.{ltb}
-use lib.ListN.{length, getD, take, drop}
-use lib.Seq.{ext-getD, getD-drop}
+use lib.ListN.{length, getD, take, drop, length-take, length-drop, take-append-drop}
+use lib.Seq.{ext-getD, getD-drop, drop-drop}
 use borrow.Author.Tests.{ltb-true, ltb-false}
 use Rattle.tables.specs.Rows.{rows, length-rows, getD-rows}
 use Rattle.rules.specs.Types as rule
 use Rattle.rules.specs.Calls.{Operation}
 use Rattle.primitives.specs.declared.Scalars.{Scalars}
-use Rattle.records.specs.Layout.{validator-at, deposit-at, partial-at, consolidation-at}
-use Rattle.records.specs.Bytes.{getD-part}
+use Rattle.records.specs.Layout.{column}
+use Rattle.records.specs.Layout.{validator-at, deposit-at, partial-at, consolidation-at, word-at}
+use Rattle.records.specs.Layout.{key-column, credentials-column, identities-fit, validators-fit}
+use Rattle.records.specs.Layout.{identities-past, validators-past}
 use Rattle.records.specs.Books.{Tables, tables, books-of, Beyond, Called}
 
 -- the scalars that books were read from
@@ -84,41 +86,101 @@ module _ (us ws : List ℕ) where
       go (suc (suc zero)) l e = rw e at (all .2)
       go (suc (suc (suc k))) l e = let z : ⊥ = omega arith in absurd z
 
-  validator-words : (n : ℕ) (ids : List ℕ) → rows n (validator-at ids us) ≡ rows n (validator-at ids ws)
-      → (q : ℕ) → q < 7 * n → Same q
-  validator-words n ids e q p = go (q % 7) (omega arith) (omega arith)
+-- ---- the registry's columns
+
+-- two lists whose parts up to n agree, and what follows
+joined : (n : ℕ) (l m : List ℕ) → take n l ≡ take n m → drop n l ≡ drop n m → l ≡ m
+joined n l m front past = sym (take-append-drop n l) ∙ ap₂ _++_ front past ∙ take-append-drop n m
+
+columns-fixed : (c w : ℕ) (l m : List ℕ) → ((k : ℕ) → k < w → column c k l ≡ column c k m)
+    → drop (w * c) l ≡ drop (w * c) m → l ≡ m
+columns-fixed c zero l m columns behind = let z : 0 * c ≡ 0 = omega arith in rw z at behind
+columns-fixed c (suc w) l m columns behind =
+    columns-fixed c w l m (λ k p. columns k (omega arith))
+    (joined c (drop (w * c) l) (drop (w * c) m) (columns w (omega arith))
+    (drop-drop c (w * c) l ∙ (rw z at behind) ∙ sym (drop-drop c (w * c) m)))
+  where
+    z : suc w * c ≡ w * c + c
+    z = omega arith
+
+module _ (n : ℕ) (us ws : List ℕ) (size : length us ≡ length ws) (ids : List ℕ)
+    (same : rows n (validator-at ids us) ≡ rows n (validator-at ids ws)) where
+  word-same : (k : ℕ) → k < 7 → (i : ℕ) → i < n → word-at k us i ≡ word-at k ws i
+  word-same k b i p = go k b
     where
-      v : validator-at ids us (q / 7) ≡ validator-at ids ws (q / 7)
-      v = row-same n (validator-at ids us) (validator-at ids ws) e (q / 7) (omega arith)
+      v : validator-at ids us i ≡ validator-at ids ws i
+      v = row-same n (validator-at ids us) (validator-at ids ws) same i p
 
-      go : (k : ℕ) → k < 7 → 7 * (q / 7) + k ≡ q → getD us q 0 ≡ getD ws q 0
-      go zero l e = let z : 7 * (q / 7) ≡ q = omega arith in rw z at (ap (λ x. x .slashed) v)
-      go (suc zero) l e = rw e at (ap (λ x. x .effective-balance) v)
-      go (suc (suc zero)) l e = rw e at (ap (λ x. x .activation-eligibility-epoch) v)
-      go (suc (suc (suc zero))) l e = rw e at (ap (λ x. x .activation-epoch) v)
-      go (suc (suc (suc (suc zero)))) l e = rw e at (ap (λ x. x .exit-epoch) v)
-      go (suc (suc (suc (suc (suc zero))))) l e = rw e at (ap (λ x. x .withdrawable-epoch) v)
-      go (suc (suc (suc (suc (suc (suc zero)))))) l e = rw e at (ap (λ x. x .balance) v)
-      go (suc (suc (suc (suc (suc (suc (suc k))))))) l e = let z : ⊥ = omega arith in absurd z
+      go : (k : ℕ) → k < 7 → word-at k us i ≡ word-at k ws i
+      go zero l = ap (λ x. x .slashed) v
+      go (suc zero) l = ap (λ x. x .effective-balance) v
+      go (suc (suc zero)) l = ap (λ x. x .activation-eligibility-epoch) v
+      go (suc (suc (suc zero))) l = ap (λ x. x .activation-epoch) v
+      go (suc (suc (suc (suc zero)))) l = ap (λ x. x .exit-epoch) v
+      go (suc (suc (suc (suc (suc zero))))) l = ap (λ x. x .withdrawable-epoch) v
+      go (suc (suc (suc (suc (suc (suc zero)))))) l = ap (λ x. x .balance) v
+      go (suc (suc (suc (suc (suc (suc (suc k))))))) l = let z : ⊥ = omega arith in absurd z
 
-  validator-bytes : (n : ℕ) (vs xs : List ℕ) → rows n (validator-at us vs) ≡ rows n (validator-at ws xs)
-      → (q : ℕ) → q < 80 * n → Same q
-  validator-bytes n vs xs e q p = go (ltb (q % 80) 48) refl
+  validators-fixed : validators-past n us ≡ validators-past n ws → us ≡ ws
+  unfolding validators-past word-at
+  validators-fixed e =
+      columns-fixed c 7 us ws
+      (λ k b.
+      lists-fixed n (column c k us) (column c k ws)
+      (omega (
+        arith,
+        size,
+        length-take c (drop (k * c) us),
+        length-take c (drop (k * c) ws),
+        length-drop (k * c) us,
+        length-drop (k * c) ws,
+      ))
+      (λ i p. rw size at (word-same k b i p))
+      (past k b))
+      (rw size at (ap (λ x. x .1) e))
     where
-      v : validator-at us vs (q / 80) ≡ validator-at ws xs (q / 80)
-      v = row-same n (validator-at us vs) (validator-at ws xs) e (q / 80) (omega arith)
+      c : ℕ
+      c = validators-fit ws
 
-      part : (at m j : ℕ) → j < m → at + j ≡ q → take m (drop at us) ≡ take m (drop at ws) → getD us q 0 ≡ getD ws q 0
-      part at m j l z k =
-          rw z at (sym (getD-part us at m j l) ∙ ap (λ x. getD x j 0) k ∙ getD-part ws at m j l)
+      of : List ℕ → ℕ → List ℕ
+      of l k = drop n (column (validators-fit l) k l)
 
-      go : (t : Bool) → ltb (q % 80) 48 ≡ t → getD us q 0 ≡ getD ws q 0
-      go true z =
-          let l : q % 80 < 48 = ltb-true (q % 80) 48 z in
-          part (80 * (q / 80)) 48 (q % 80) l (omega arith) (ap (λ x. x .public-key) v)
-      go false z =
-          let l : 48 ≤ q % 80 = ltb-false (q % 80) 48 z in
-          part (80 * (q / 80) + 48) 32 (q % 80 - 48) (omega arith) (omega arith) (ap (λ x. x .withdrawal-credentials) v)
+      past : (k : ℕ) → k < 7 → drop n (column (validators-fit ws) k us) ≡ drop n (column (validators-fit ws) k ws)
+      past k b =
+          rw size at
+          (sym (getD-rows 7 (of us) k [] b) ∙ ap (λ x. getD (x .0) k []) e ∙ getD-rows 7 (of ws) k [] b)
+
+module _ (n : ℕ) (us ids vs ws : List ℕ) (size : length us ≡ length ids)
+    (same : rows n (validator-at us vs) ≡ rows n (validator-at ids ws)) where
+  row : (i : ℕ) → i < n → validator-at us vs i ≡ validator-at ids ws i
+  row = row-same n (validator-at us vs) (validator-at ids ws) same
+
+  -- each is a table of rows, and so of columns that are one record long
+  keys-fixed : drop (48 * n) (key-column us) ≡ drop (48 * n) (key-column ids) → key-column us ≡ key-column ids
+  keys-fixed e =
+      columns-fixed 48 n (key-column us) (key-column ids)
+      (λ i p. let z : i * 48 ≡ 48 * i = omega arith in rw z (ap (λ x. x .public-key) (row i p)))
+      (let z : n * 48 ≡ 48 * n = omega arith in rw z e)
+
+  credentials-fixed : drop (32 * n) (credentials-column us) ≡ drop (32 * n) (credentials-column ids)
+      → credentials-column us ≡ credentials-column ids
+  credentials-fixed e =
+      columns-fixed 32 n (credentials-column us) (credentials-column ids)
+      (λ i p. let z : i * 32 ≡ 32 * i = omega arith in rw z (ap (λ x. x .withdrawal-credentials) (row i p)))
+      (let z : n * 32 ≡ 32 * n = omega arith in rw z e)
+
+  identities-fixed : identities-past n us ≡ identities-past n ids → us ≡ ids
+  unfolding identities-past key-column credentials-column
+  identities-fixed e =
+      joined (48 * identities-fit ids) us ids (rw size at (keys-fixed (ap (λ x. x .0) e)))
+      (joined (32 * identities-fit ids) (drop (48 * identities-fit ids) us) (drop (48 * identities-fit ids) ids)
+      (rw size at (credentials-fixed (ap (λ x. x .1) e)))
+      (drop-drop (32 * identities-fit ids) (48 * identities-fit ids) us
+      ∙ (rw (size, z) at (ap (λ x. x .2) e))
+      ∙ sym (drop-drop (32 * identities-fit ids) (48 * identities-fit ids) ids)))
+    where
+      z : 80 * identities-fit ids ≡ 48 * identities-fit ids + 32 * identities-fit ids
+      z = omega arith
 
 -- ---- tables and calls
 
@@ -141,16 +203,13 @@ tables-fixed r t u w z f g e = same-tables ids vs ds ps cs
   where
     ids : u .identities ≡ w .identities
     ids =
-        lists-fixed (80 * r .validators) (u .identities) (w .identities) (z .identities)
-        (validator-bytes (u .identities) (w .identities) (r .validators) (u .validators) (w .validators)
-        (ap (λ b. b .validators) e))
-        (f .identities ∙ sym (g .identities))
+        identities-fixed (r .validators) (u .identities) (w .identities) (u .validators) (w .validators)
+        (z .identities) (ap (λ b. b .validators) e) (f .identities ∙ sym (g .identities))
 
     vs : u .validators ≡ w .validators
     vs =
-        lists-fixed (7 * r .validators) (u .validators) (w .validators) (z .validators)
-        (validator-words (u .validators) (w .validators) (r .validators) (w .identities)
-        (ap (λ x. rows (r .validators) (validator-at x (u .validators))) (sym ids) ∙ ap (λ b. b .validators) e))
+        validators-fixed (r .validators) (u .validators) (w .validators) (z .validators) (w .identities)
+        (ap (λ x. rows (r .validators) (validator-at x (u .validators))) (sym ids) ∙ ap (λ b. b .validators) e)
         (f .validators ∙ sym (g .validators))
 
     ds : u .deposits ≡ w .deposits

@@ -1,40 +1,73 @@
--- The lent tables, read as the rules' records. Only this file, the laws in Stores and the functions that read or store
--- single words know how many words a record has, and in which order.
+-- The lent tables, read as the rules' records. The registry's two tables are laid out by columns, one for each field,
+-- so that a pass over a field reads what it needs alone; the queues are laid out by records. Only this file, the laws
+-- in Stores and the functions that read or store single words know the places.
 use mathlib.Core.List.{List}
 use Prim.Native.Nat.{ℕ, _+_, _*_, _/_}
 use lib.ListN.{length, getD, take, drop}
+use Rattle.tables.specs.Rows.{rows}
 use Rattle.rules.specs.Types.{Validator, PendingBalanceDeposit, PendingPartialWithdrawal, PendingConsolidation}
 
--- ---- identities: eighty bytes a validator
+-- ---- how many records fit
+
+abbrev pub identities-fit : List ℕ → ℕ
+identities-fit ids = length ids / 80
+
+abbrev pub validators-fit : List ℕ → ℕ
+validators-fit ws = length ws / 7
+
+abbrev pub deposits-fit : List ℕ → ℕ
+deposits-fit ws = length ws / 2
+
+abbrev pub partials-fit : List ℕ → ℕ
+partials-fit ws = length ws / 3
+
+abbrev pub consolidations-fit : List ℕ → ℕ
+consolidations-fit ws = length ws / 2
+
+-- ---- identities: the keys of as many validators as fit, 48 bytes each, then their credentials, 32 bytes each
+
+unfoldable pub key-column : List ℕ → List ℕ
+key-column ids = take (48 * identities-fit ids) ids
+
+unfoldable pub credentials-column : List ℕ → List ℕ
+credentials-column ids = take (32 * identities-fit ids) (drop (48 * identities-fit ids) ids)
 
 abbrev pub public-key-at : List ℕ → ℕ → List ℕ
-public-key-at ids i = take 48 (drop (80 * i) ids)
+public-key-at ids i = take 48 (drop (48 * i) (key-column ids))
 
 abbrev pub withdrawal-credentials-at : List ℕ → ℕ → List ℕ
-withdrawal-credentials-at ids i = take 32 (drop (80 * i + 48) ids)
+withdrawal-credentials-at ids i = take 32 (drop (32 * i) (credentials-column ids))
 
--- ---- validators: seven words a validator
+-- ---- validators: seven columns, of as many words each as validators fit
+
+-- column k of c words
+abbrev pub column : (c k : ℕ) → List ℕ → List ℕ
+column c k ws = take c (drop (k * c) ws)
+
+-- word k of validator i
+unfoldable pub word-at : ℕ → List ℕ → ℕ → ℕ
+word-at k ws i = getD (column (validators-fit ws) k ws) i 0
 
 abbrev pub slashed-at : List ℕ → ℕ → ℕ
-slashed-at ws i = getD ws (7 * i) 0
+slashed-at ws i = word-at 0 ws i
 
 abbrev pub effective-balance-at : List ℕ → ℕ → ℕ
-effective-balance-at ws i = getD ws (7 * i + 1) 0
+effective-balance-at ws i = word-at 1 ws i
 
 abbrev pub activation-eligibility-epoch-at : List ℕ → ℕ → ℕ
-activation-eligibility-epoch-at ws i = getD ws (7 * i + 2) 0
+activation-eligibility-epoch-at ws i = word-at 2 ws i
 
 abbrev pub activation-epoch-at : List ℕ → ℕ → ℕ
-activation-epoch-at ws i = getD ws (7 * i + 3) 0
+activation-epoch-at ws i = word-at 3 ws i
 
 abbrev pub exit-epoch-at : List ℕ → ℕ → ℕ
-exit-epoch-at ws i = getD ws (7 * i + 4) 0
+exit-epoch-at ws i = word-at 4 ws i
 
 abbrev pub withdrawable-epoch-at : List ℕ → ℕ → ℕ
-withdrawable-epoch-at ws i = getD ws (7 * i + 5) 0
+withdrawable-epoch-at ws i = word-at 5 ws i
 
 abbrev pub balance-at : List ℕ → ℕ → ℕ
-balance-at ws i = getD ws (7 * i + 6) 0
+balance-at ws i = word-at 6 ws i
 
 -- validator i of the identities ids and the words ws
 abbrev pub validator-at : List ℕ → List ℕ → ℕ → Validator
@@ -65,28 +98,17 @@ partial-at ws i = record {
 abbrev pub consolidation-at : List ℕ → ℕ → PendingConsolidation
 consolidation-at ws i = record { source-index = getD ws (2 * i) 0; target-index = getD ws (2 * i + 1) 0 }
 
--- ---- how many records fit, and what stands past the first n
+-- ---- what stands past the first n records
 
-abbrev pub identities-fit : List ℕ → ℕ
-identities-fit ids = length ids / 80
+-- past n keys, past n credentials, and behind them
+unfoldable pub identities-past : ℕ → List ℕ → List ℕ × List ℕ × List ℕ
+identities-past n ids =
+    (drop (48 * n) (key-column ids), drop (32 * n) (credentials-column ids), drop (80 * identities-fit ids) ids)
 
-abbrev pub validators-fit : List ℕ → ℕ
-validators-fit ws = length ws / 7
-
-abbrev pub deposits-fit : List ℕ → ℕ
-deposits-fit ws = length ws / 2
-
-abbrev pub partials-fit : List ℕ → ℕ
-partials-fit ws = length ws / 3
-
-abbrev pub consolidations-fit : List ℕ → ℕ
-consolidations-fit ws = length ws / 2
-
-abbrev pub identities-past : ℕ → List ℕ → List ℕ
-identities-past n ids = drop (80 * n) ids
-
-abbrev pub validators-past : ℕ → List ℕ → List ℕ
-validators-past n ws = drop (7 * n) ws
+-- past n words of each column, and behind the columns
+unfoldable pub validators-past : ℕ → List ℕ → List (List ℕ) × List ℕ
+validators-past n ws =
+    (rows 7 (λ k. drop n (column (validators-fit ws) k ws)), drop (7 * validators-fit ws) ws)
 
 abbrev pub deposits-past : ℕ → List ℕ → List ℕ
 deposits-past n ws = drop (2 * n) ws

@@ -1,8 +1,10 @@
 pub mod Layout
+pub mod Bytes
+pub mod Columns
+pub mod Past
 pub mod Plain
 pub mod Books
 pub mod Reading
-pub mod Bytes
 pub mod Stores
 pub mod Queues
 pub mod Fixed

@@ -35,14 +35,14 @@ fn check_front(
     check_firsts(replay, b"settings and scalars", recorded, out, 340)
 }
 
-// The tables, against tables for 512 records that the recorded books were laid into.
+// The tables, against others.
 fn check_tables(
     replay: Replay,
-    recorded_identities: &[u8; 40960],
-    recorded_validators: &[u64; 3584],
-    recorded_deposits: &[u64; 1024],
-    recorded_partials: &[u64; 1536],
-    recorded_consolidations: &[u64; 1024],
+    wanted_identities: &[u8],
+    wanted_validators: &[u64],
+    wanted_deposits: &[u64],
+    wanted_partials: &[u64],
+    wanted_consolidations: &[u64],
     identities: &[u8],
     validators: &[u64],
     deposits: &[u64],
@@ -50,15 +50,56 @@ fn check_tables(
     consolidations: &[u64],
 ) -> Replay {
     let n = identities.len();
-    let mut r = check_firsts(replay, b"identities", recorded_identities, identities, n);
-    let same_validators = begins_with(recorded_validators, validators);
+    let mut r = check_firsts(replay, b"identities", wanted_identities, identities, n);
+    let same_validators = begins_with(wanted_validators, validators);
     r = check_same(r, b"validators", same_validators);
-    let same_deposits = begins_with(recorded_deposits, deposits);
+    let same_deposits = begins_with(wanted_deposits, deposits);
     r = check_same(r, b"deposits", same_deposits);
-    let same_partials = begins_with(recorded_partials, partials);
+    let same_partials = begins_with(wanted_partials, partials);
     r = check_same(r, b"partials", same_partials);
-    let same_consolidations = begins_with(recorded_consolidations, consolidations);
+    let same_consolidations = begins_with(wanted_consolidations, consolidations);
     check_same(r, b"consolidations", same_consolidations)
+}
+
+// The tables, against those that the recorded books are laid into: the registry's are as long as the lent ones, since
+// their columns depend on the length.
+fn check_laid(
+    replay: Replay,
+    recorded: &[u8],
+    wanted_identities: &mut [u8],
+    wanted_validators: &mut [u64],
+    wanted_deposits: &mut [u64; 1024],
+    wanted_partials: &mut [u64; 1536],
+    wanted_consolidations: &mut [u64; 1024],
+    scalars: Scalars,
+    identities: &[u8],
+    validators: &[u64],
+    deposits: &[u64],
+    partials: &[u64],
+    consolidations: &[u64],
+) -> Replay {
+    let before = laid::lay(
+        recorded,
+        wanted_identities,
+        wanted_validators,
+        wanted_deposits,
+        wanted_partials,
+        wanted_consolidations,
+    );
+    let r = check_tables(
+        replay,
+        wanted_identities,
+        wanted_validators,
+        wanted_deposits,
+        wanted_partials,
+        wanted_consolidations,
+        identities,
+        validators,
+        deposits,
+        partials,
+        consolidations,
+    );
+    check_same(r, b"counts", same_counts(before, scalars))
 }
 
 pub fn check_unchanged(
@@ -79,20 +120,22 @@ pub fn check_unchanged(
     let mut ds = buffers::deposits();
     let mut ps = buffers::partials();
     let mut cs = buffers::consolidations();
-    let before = laid::lay(recorded, &mut is, &mut vs, &mut ds, &mut ps, &mut cs);
-    let tables = check_tables(
+    let bytes = identities.len() % 40961;
+    let words = validators.len() % 3585;
+    let tables = check_laid(
         replay,
-        &is,
-        &vs,
-        &ds,
-        &ps,
-        &cs,
+        recorded,
+        &mut is[..bytes],
+        &mut vs[..words],
+        &mut ds,
+        &mut ps,
+        &mut cs,
+        scalars,
         identities,
         validators,
         deposits,
         partials,
         consolidations,
     );
-    let front = check_front(tables, settings, scalars, recorded, out);
-    check_same(front, b"counts", same_counts(before, scalars))
+    check_front(tables, settings, scalars, recorded, out)
 }

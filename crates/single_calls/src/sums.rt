@@ -1,16 +1,19 @@
 // What books hold, balances plus waiting deposits, whether they are sound or not.
 use primitives::Scalars;
 use primitives::Settings;
+use primitives::ValidatorIndex;
 use primitives::answers;
+use records::registry::balance_at;
+use records::registry::validators_fit;
 
 fn sum_balances(validators: &[u64], n: usize) -> u64 {
     let mut sum: u64 = 0;
     let mut i: usize = 0;
     while i < n {
-        if validators.len() / 7 <= i {
+        if validators_fit(validators) <= i {
             return sum;
         }
-        sum = std::num::wrapping_add_u64(sum, validators[i * 7 + 6]);
+        sum = std::num::wrapping_add_u64(sum, balance_at(validators, ValidatorIndex(i)).0);
         i += 1;
     }
     sum

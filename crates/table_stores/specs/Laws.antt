@@ -6,14 +6,15 @@ use Prim.Native.Nat.{ℕ, _+_, _*_, _≤_, _<_}
 use native.Mathlib.Numerals.{add-one}
 use native.Mathlib.Omega.{arith}
 use lib.ListN.{length, drop}
-use lib.Seq.{drop-drop, paste}
+use lib.Seq.{paste}
 use Rattle.tables.specs.Rows.{rows, rows-snoc}
 use Rattle.rules.specs.Types.{Validator}
 use Rattle.primitives.specs.declared.Scalars.{Scalars}
 use Rattle.records.specs.Layout.{validator-at, identities-fit, validators-fit}
+use Rattle.records.specs.Past.{drop-more, identities-past-more, validators-past-more}
 use Rattle.records.specs.Books.{Tables, books-of}
 use Rattle.records.specs.Queues.{Pushed}
-use Rattle.records.specs.Stores.{ValidatorPushed, put-words, validator-stored}
+use Rattle.records.specs.Stores.{ValidatorPushed, put-validator, validator-stored}
 use Rattle.acceptance.specs.Sound.{books-with}
 use Rattle.file_format.specs.Words.{words}
 use Rattle.file_format.specs.Fields.{field, flag}
@@ -35,7 +36,7 @@ pub words-stored : (ws : List ℕ) (k : ℕ) (vs : List ℕ) (n : ℕ) {s b₁ b
     → s ≡ flag .value (drop (k + 27) ws) → b₁ ≡ number-at ws (k + 28) → b₂ ≡ number-at ws (k + 31)
     → b₃ ≡ number-at ws (k + 34) → b₄ ≡ number-at ws (k + 37) → b₅ ≡ number-at ws (k + 40)
     → b₆ ≡ number-at ws (k + 43)
-    → put-words vs n (record {
+    → put-validator vs n (record {
       public-key = field 48 .value (drop k ws);
       withdrawal-credentials = field 32 .value (drop (k + 16) ws);
       slashed = s;
@@ -46,9 +47,9 @@ pub words-stored : (ws : List ℕ) (k : ℕ) (vs : List ℕ) (n : ℕ) {s b₁ b
       withdrawable-epoch = b₅;
       balance = b₆;
     })
-    ≡ put-words vs n (validator .value (drop k ws))
+    ≡ put-validator vs n (validator .value (drop k ws))
 words-stored ws k vs n e g₁ g₂ g₃ g₄ g₅ g₆ =
-    ap (put-words vs n)
+    ap (put-validator vs n)
     ((λ j. record {
       public-key = field 48 .value (drop k ws);
       withdrawal-credentials = field 32 .value (drop (k + 16) ws);
@@ -74,27 +75,21 @@ module _ (bs : List ℕ) (k : ℕ) (e : validator .ok (drop k (words bs)) ≡ tr
 
   -- its bytes, and then its numbers
   pub validator-put : n < identities-fit ids → n < validators-fit vs → {with-key new-ids new-vs : List ℕ}
-      → with-key ≡ paste ids (80 * n) (field 48 .value (drop k (words bs))) 48
-      → new-ids ≡ paste with-key (80 * n + 48) (field 32 .value (drop (k + 16) (words bs))) 32
-      → new-vs ≡ put-words vs n v
+      → with-key ≡ paste ids (48 * n) (field 48 .value (drop k (words bs))) 48
+      → new-ids
+      ≡ paste with-key (48 * identities-fit ids + 32 * n) (field 32 .value (drop (k + 16) (words bs))) 32
+      → new-vs ≡ put-validator vs n v
       → ValidatorPushed n v ids vs new-ids new-vs
   validator-put f g {with-key} p q r =
       let there = validator-good (words bs) k e in
       validator-stored ids vs n v f g
       (ap length key-there ∙ field-size bs k 48 (there .key))
       (ap length credentials-there ∙ field-size bs (k + 16) 32 (there .credentials))
-      (p ∙ ap (λ x. paste ids (80 * n) x 48) (sym key-there))
-      (q ∙ ap (λ x. paste with-key (80 * n + 48) x 32) (sym credentials-there))
+      (p ∙ ap (λ x. paste ids (48 * n) x 48) (sym key-there))
+      (q ∙ ap (λ x. paste with-key (48 * identities-fit ids + 32 * n) x 32) (sym credentials-there))
       r
 
 -- ---- a loop that stores one record after another
-
--- what agrees past i records agrees past one more
-past-more : (width i : ℕ) (l m : List ℕ) → drop (width * i) l ≡ drop (width * i) m
-    → drop (width * (i + 1)) l ≡ drop (width * (i + 1)) m
-past-more width i l m e =
-    let q : width * i + width ≡ width * (i + 1) = omega arith in
-    rw (← q) (sym (drop-drop width (width * i) l) ∙ ap (drop width) e ∙ drop-drop width (width * i) m)
 
 no-rows : {A : Type 0} (g h : ℕ → A) → rows 0 g ≡ rows 0 h
 unfolding rows
@@ -115,7 +110,7 @@ module _ {A : Type 0} (decode : List ℕ → ℕ → A) (width : ℕ) (g : ℕ �
   stored-more {i} {x} {old} {mid} {new} s p z e = record {
     size = z ∙ s .size;
     records = p .records ∙ one-more i g (s .records) e;
-    past = p .past ∙ past-more width i mid old (s .past);
+    past = p .past ∙ drop-more (width * i) (width * (i + 1)) mid old (omega arith) (s .past);
   }
 
   pub stored-all : {i n : ℕ} {old new : List ℕ} → i ≤ n → n ≤ i → Stored decode width i (rows i g) old new
@@ -146,8 +141,10 @@ module _ (ws : List ℕ) where
     identities-size = y ∙ s .identities-size;
     validators-size = z ∙ s .validators-size;
     validators = p .validators ∙ one-more i file-validator (s .validators) refl;
-    identities-past = p .identities-past ∙ past-more 80 i mid-ids ids (s .identities-past);
-    validators-past = p .validators-past ∙ past-more 7 i mid-vs vs (s .validators-past);
+    identities-past =
+        p .identities-past ∙ identities-past-more i (i + 1) mid-ids ids (omega arith) (s .identities-past);
+    validators-past =
+        p .validators-past ∙ validators-past-more i (i + 1) mid-vs vs (omega arith) (s .validators-past);
   }
 
   pub validators-all : {i n : ℕ} {ids vs new-ids new-vs : List ℕ} → i ≤ n → n ≤ i

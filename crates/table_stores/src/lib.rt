@@ -10,16 +10,19 @@ use file_records::partial_at;
 use file_words::flag_at;
 use file_words::number_at;
 use primitives::Scalars;
+use primitives::ValidatorIndex;
 use records::queues::push_consolidation;
 use records::queues::push_deposit;
 use records::queues::push_partial;
+use records::registry::credentials_place;
+use records::registry::put_words;
 ghost use mathlib.Core.Path.{_≡_};
 ghost use mathlib.Core.Bool.{true};
 ghost use Prim.Native.Nat.{_≤_, _<_, _^_};
 ghost use lib.ListN.{drop};
 ghost use Rattle.records.specs.Layout.{identities-fit, validators-fit, deposits-fit, partials-fit, consolidations-fit};
 ghost use Rattle.records.specs.Books.{tables};
-ghost use Rattle.records.specs.Stores.{put-words, ValidatorPushed};
+ghost use Rattle.records.specs.Stores.{put-validator, ValidatorPushed};
 ghost use Rattle.file_format.specs.Words.{words};
 ghost use Rattle.file_format.specs.Books.{validator, deposit, partial, consolidation};
 ghost use Rattle.file_format.specs.PlacesLaws.{Good};
@@ -28,7 +31,7 @@ ghost use Rattle.file_records.specs.Lists.{Readable};
 ghost use Rattle.table_stores.specs.Stored.{ValidatorsStored, DepositsStored, PartialsStored};
 ghost use Rattle.table_stores.specs.Stored.{ConsolidationsStored, Fits, BooksStored};
 
-// ---- a validator at word k of the file, straight into row n of the tables
+// ---- a validator at word k of the file, straight into the tables, behind the first n
 
 fn store_words(file: &[u8], k: usize, validators: &mut [u64], n: usize)
     requires { ⌜ k ≤ 2 ^ 39 ⌝ }
@@ -36,7 +39,7 @@ fn store_words(file: &[u8], k: usize, validators: &mut [u64], n: usize)
     requires { ⌜ n < validators-fit (now validators) ⌝ }
     ensures { λ _. ⌜
         now (validators .exit)
-        ≡ put-words (now (validators .entry)) n (validator .value (drop k (words (now (file .entry)))))
+        ≡ put-validator (now (validators .entry)) n (validator .value (drop k (words (now (file .entry)))))
         ⌝ }
 {
     let slashed = flag_at(file, k + 27) as u64;
@@ -46,14 +49,17 @@ fn store_words(file: &[u8], k: usize, validators: &mut [u64], n: usize)
     let exit_epoch = number_at(file, k + 37);
     let withdrawable_epoch = number_at(file, k + 40);
     let balance = number_at(file, k + 43);
-    let at = 7 * n;
-    validators[at] = slashed;
-    validators[at + 1] = effective_balance;
-    validators[at + 2] = activation_eligibility_epoch;
-    validators[at + 3] = activation_epoch;
-    validators[at + 4] = exit_epoch;
-    validators[at + 5] = withdrawable_epoch;
-    validators[at + 6] = balance;
+    put_words(
+        validators,
+        n,
+        slashed,
+        effective_balance,
+        activation_eligibility_epoch,
+        activation_epoch,
+        exit_epoch,
+        withdrawable_epoch,
+        balance,
+    );
 }
 
 fn store_validator(file: &[u8], k: usize, identities: &mut [u8], validators: &mut [u64], n: usize)
@@ -65,14 +71,15 @@ fn store_validator(file: &[u8], k: usize, identities: &mut [u8], validators: &mu
         (now (identities .entry)) (now (validators .entry)) (now (identities .exit)) (now (validators .exit))
         ⌝ }
 {
-    put_field(file, k, 48, identities, 80 * n);
-    put_field(file, k + 16, 32, identities, 80 * n + 48);
+    let credentials = credentials_place(identities, ValidatorIndex(n));
+    put_field(file, k, 48, identities, 48 * n);
+    put_field(file, k + 16, 32, identities, credentials);
     store_words(file, k, validators, n);
 }
 
 // ---- lists
 
-// n validators from word 86 on, into rows 0 to n - 1.
+// n validators from word 86 on, as the first n of the tables.
 fn store_validators(file: &[u8], n: usize, identities: &mut [u8], validators: &mut [u64])
     requires { ⌜ Readable validator 46 86 n (words (now file)) ⌝ }
     requires { ⌜ (n ≤ identities-fit (now identities)) × (n ≤ validators-fit (now validators)) ⌝ }

@@ -297,7 +297,7 @@ impl Books {
     /// Books without validators, with room for as many records as the limits say. Settings are judged by each call.
     pub fn new(settings: &Settings, scalars: &Scalars) -> Books {
         let room = |limit: u64| limit.min(MOST) as usize;
-        let limits = settings.limits;
+        let Limits { registry, deposits, partials, consolidations } = settings.limits;
         Books {
             settings: settings.numbers(),
             scalars: [
@@ -315,11 +315,7 @@ impl Books {
                 0,
                 0,
             ],
-            identities: vec![0; 80 * room(limits.registry)],
-            validators: vec![0; 7 * room(limits.registry)],
-            deposits: vec![0; 2 * room(limits.deposits)],
-            partials: vec![0; 3 * room(limits.partials)],
-            consolidations: vec![0; 2 * room(limits.consolidations)],
+            ..Books::with_room([registry, deposits, partials, consolidations].map(room))
         }
     }
 
@@ -327,24 +323,25 @@ impl Books {
 
     /// The books of a books file.
     pub fn open(file: &[u8]) -> Result<Books, Refused> {
-        let most = MOST as usize;
-        let mut b = Books {
+        let mut most = Books::with_room([MOST as usize; 4]);
+        most.read(file)?;
+        // where a table's columns stand depends on its length, so that a shorter buffer is read anew
+        let mut b = Books::with_room(most.limits());
+        b.read(file)?;
+        Ok(b)
+    }
+
+    /// Buffers with room for so many validators, deposits, partials and consolidations, all 0.
+    fn with_room([registry, deposits, partials, consolidations]: [usize; 4]) -> Books {
+        Books {
             settings: [0; 19],
             scalars: [0; 13],
-            identities: vec![0; 80 * most],
-            validators: vec![0; 7 * most],
-            deposits: vec![0; 2 * most],
-            partials: vec![0; 3 * most],
-            consolidations: vec![0; 2 * most],
-        };
-        b.read(file)?;
-        let [registry, deposits, partials, consolidations] = b.limits();
-        cut(&mut b.identities, 80 * registry);
-        cut(&mut b.validators, 7 * registry);
-        cut(&mut b.deposits, 2 * deposits);
-        cut(&mut b.partials, 3 * partials);
-        cut(&mut b.consolidations, 2 * consolidations);
-        Ok(b)
+            identities: vec![0; 80 * registry],
+            validators: vec![0; 7 * registry],
+            deposits: vec![0; 2 * deposits],
+            partials: vec![0; 3 * partials],
+            consolidations: vec![0; 2 * consolidations],
+        }
     }
 
     /// The books of a books file, in the buffers of these; a file with larger limits is refused, 3.
@@ -434,20 +431,25 @@ impl Books {
     }
 
     pub fn validators(&self) -> Vec<Validator> {
-        let identities = self.identities.chunks_exact(80);
-        let words = self.validators.chunks_exact(7);
-        let record = |(id, w): (&[u8], &[u64])| Validator {
-            public_key: id[..48].try_into().unwrap(),
-            withdrawal_credentials: id[48..].try_into().unwrap(),
-            slashed: w[0] != 0,
-            effective_balance: w[1],
-            activation_eligibility_epoch: w[2],
-            activation_epoch: w[3],
-            exit_epoch: w[4],
-            withdrawable_epoch: w[5],
-            balance: w[6],
-        };
-        identities.zip(words).take(self.count(VALIDATORS)).map(record).collect()
+        (0..self.count(VALIDATORS)).map(|i| self.validator(i)).collect()
+    }
+
+    // The registry's tables are laid out by columns: all keys, then all credentials; and seven columns of words.
+    fn validator(&self, i: usize) -> Validator {
+        let (keys, credentials) = self.identities.split_at(48 * (self.identities.len() / 80));
+        let fit = self.validators.len() / 7;
+        let word = |column: usize| self.validators[column * fit + i];
+        Validator {
+            public_key: keys[48 * i..][..48].try_into().unwrap(),
+            withdrawal_credentials: credentials[32 * i..][..32].try_into().unwrap(),
+            slashed: word(0) != 0,
+            effective_balance: word(1),
+            activation_eligibility_epoch: word(2),
+            activation_epoch: word(3),
+            exit_epoch: word(4),
+            withdrawable_epoch: word(5),
+            balance: word(6),
+        }
     }
 
     pub fn deposits(&self) -> Vec<PendingBalanceDeposit> {
@@ -470,9 +472,13 @@ impl Books {
 
     pub fn push_validator(&mut self, v: &Validator) -> Result<(), Full> {
         let i = self.count(VALIDATORS);
-        let id = self.identities.chunks_exact_mut(80).nth(i).ok_or(Full)?;
-        id[..48].copy_from_slice(&v.public_key);
-        id[48..].copy_from_slice(&v.withdrawal_credentials);
+        let fit = self.validators.len() / 7;
+        if fit <= i {
+            return Err(Full);
+        }
+        let (keys, credentials) = self.identities.split_at_mut(48 * fit);
+        keys[48 * i..][..48].copy_from_slice(&v.public_key);
+        credentials[32 * i..][..32].copy_from_slice(&v.withdrawal_credentials);
         let words = [
             v.slashed as u64,
             v.effective_balance,
@@ -482,7 +488,9 @@ impl Books {
             v.withdrawable_epoch,
             v.balance,
         ];
-        push(&mut self.validators, &mut self.scalars[VALIDATORS], &words)
+        words.into_iter().enumerate().for_each(|(column, word)| self.validators[column * fit + i] = word);
+        self.scalars[VALIDATORS] += 1;
+        Ok(())
     }
 
     pub fn push_deposit(&mut self, d: &PendingBalanceDeposit) -> Result<(), Full> {
@@ -628,11 +636,6 @@ impl Books {
         let list = all.take(count as usize).map(withdrawal).collect();
         Ok(ExpectedWithdrawals { list, partials: partials as usize })
     }
-}
-
-fn cut<T>(buffer: &mut Vec<T>, length: usize) {
-    buffer.truncate(length);
-    buffer.shrink_to_fit();
 }
 
 /// Another record behind those that `count` counts.

@@ -1,6 +1,6 @@
 //! One step, taken by the library and by the mended Rust, and what differs.
 use crate::{
-    lent::{self, Given, Lent, BYTE, FILLER, IDENTITY, NUMBERS, WIDTHS},
+    lent::{self, Given, Lent, BYTE, FILLER, IDENTITY, IDENTITY_COLUMNS, NUMBERS, VALIDATOR_COLUMNS, WIDTHS},
     step::{Ask, Step},
 };
 use oracle::{
@@ -229,7 +229,9 @@ fn books_difference(kept: &Lent, after: &Lent, books: Option<&Books>) -> Option<
     if kept.scalars[NUMBERS..] != after.scalars[NUMBERS..] {
         return Some("the library changed numbers past the scalars".into());
     }
-    let [validators, deposits, partials, consolidations] = &after.tables;
+    let [_, deposits, partials, consolidations] = &after.tables;
+    let identities = [kept, after].map(|lent| lent::by_record(&lent.identities, &IDENTITY_COLUMNS));
+    let validators = [kept, after].map(|lent| lent::by_record(&lent.tables[0], &VALIDATOR_COLUMNS));
     let identity = |one: &oracle::books::Validator| -> [u8; IDENTITY] {
         let mut bytes = [0; IDENTITY];
         bytes[..48].copy_from_slice(&one.key);
@@ -237,8 +239,8 @@ fn books_difference(kept: &Lent, after: &Lent, books: Option<&Books>) -> Option<
         bytes
     };
     let differing = [
-        ("identities", records_difference(&after.identities, &books.validators, identity)),
-        ("validators", records_difference(validators, &books.validators, lent::validator_words)),
+        ("identities", records_difference(&identities[1], &books.validators, identity)),
+        ("validators", records_difference(&validators[1], &books.validators, lent::validator_words)),
         ("deposits", records_difference(deposits, &books.deposits, lent::deposit_words)),
         ("partials", records_difference(partials, &books.partials, lent::partial_words)),
         (
@@ -251,8 +253,9 @@ fn books_difference(kept: &Lent, after: &Lent, books: Option<&Books>) -> Option<
     }
     let bytes = IDENTITY * books.validators.len();
     let past = |table: usize| WIDTHS[table] * after.count(table) as usize;
-    let changed = kept.identities[bytes..] != after.identities[bytes..]
-        || (0..4).any(|table| kept.tables[table][past(table)..] != after.tables[table][past(table)..]);
+    let changed = identities[0][bytes..] != identities[1][bytes..]
+        || validators[0][past(0)..] != validators[1][past(0)..]
+        || (1..4).any(|table| kept.tables[table][past(table)..] != after.tables[table][past(table)..]);
     changed.then(|| "the library changed words past the records".into())
 }
 

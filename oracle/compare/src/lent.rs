@@ -11,6 +11,9 @@ pub const NUMBERS: usize = SCALARS + 4;
 /// Words or bytes of a record in each table: identities, validators, deposits, partials, consolidations.
 pub const IDENTITY: usize = 80;
 pub const WIDTHS: [usize; 4] = [7, 2, 3, 2];
+/// The registry's tables are laid out by columns: keys and credentials, and seven columns of words.
+pub const IDENTITY_COLUMNS: [usize; 2] = [48, 32];
+pub const VALIDATOR_COLUMNS: [usize; 7] = [1; 7];
 
 #[derive(Clone, PartialEq)]
 pub struct Lent {
@@ -71,6 +74,32 @@ pub fn scalar_words(books: &Books) -> Vec<u64> {
     books.scalars.iter().map(|&value| narrow(value)).chain(lengths.map(|length| length as u64)).collect()
 }
 
+/// The places of a table of columns in the order of its records, then those behind the columns.
+fn places<'a>(length: usize, columns: &'a [usize]) -> impl Iterator<Item = usize> + 'a {
+    let width: usize = columns.iter().sum();
+    let room = length / width;
+    let records = (0..room).flat_map(move |i| {
+        columns.iter().scan(0, move |before, &column| {
+            let start = *before * room + column * i;
+            *before += column;
+            Some(start..start + column)
+        })
+    });
+    records.flatten().chain(width * room..length)
+}
+
+/// A table of columns, record by record.
+pub fn by_record<W: Copy>(table: &[W], columns: &[usize]) -> Vec<W> {
+    places(table.len(), columns).map(|place| table[place]).collect()
+}
+
+/// The table of columns that holds these records.
+fn by_column<W: Copy + Default>(records: &[W], columns: &[usize]) -> Vec<W> {
+    let mut table = vec![W::default(); records.len()];
+    places(records.len(), columns).zip(records).for_each(|(place, &word)| table[place] = word);
+    table
+}
+
 impl Lent {
     /// The books in buffers with room for their limits, and at times for more, random words past their records.
     pub fn of(books: &Books, dice: &mut Dice) -> Lent {
@@ -103,6 +132,8 @@ impl Lent {
             let words = width * room + dice.below(width as u64) as usize;
             table.resize_with(words, || dice.next());
         }
+        identities = by_column(&identities, &IDENTITY_COLUMNS);
+        tables[0] = by_column(&tables[0], &VALIDATOR_COLUMNS);
         let mut lent = Lent { settings, scalars, identities, tables };
         lent.shrink();
         lent
@@ -125,6 +156,14 @@ impl Lent {
         self.scalars[SCALARS + table]
     }
 
+    /// Where word k of a record stands.
+    pub fn place(&self, table: usize, record: usize, k: usize) -> usize {
+        match table {
+            0 => k * (self.tables[0].len() / WIDTHS[0]) + record,
+            _ => WIDTHS[table] * record + k,
+        }
+    }
+
     /// How many records have room in each table.
     pub fn rooms(&self) -> [usize; 4] {
         let mut rooms: [usize; 4] = std::array::from_fn(|table| self.tables[table].len() / WIDTHS[table]);
@@ -140,15 +179,18 @@ impl Lent {
         }
         let records =
             |table: usize| self.tables[table].chunks_exact(WIDTHS[table]).take(self.count(table) as usize);
-        if records(0).any(|words| words[0] > 1) {
+        let words = by_record(&self.tables[0], &VALIDATOR_COLUMNS);
+        let validators = || words.chunks_exact(WIDTHS[0]).take(self.count(0) as usize);
+        if validators().any(|words| words[0] > 1) {
             return None;
         }
-        let identities = self.identities.chunks_exact(IDENTITY);
+        let identities = by_record(&self.identities, &IDENTITY_COLUMNS);
         Some(Books {
             settings: self.settings(),
             scalars: std::array::from_fn(|position| self.scalars[position].into()),
             validators: identities
-                .zip(records(0))
+                .chunks_exact(IDENTITY)
+                .zip(validators())
                 .map(|(id, w)| Validator {
                     key: id[..48].try_into().expect("a key"),
                     credentials: id[48..].try_into().expect("credentials"),

@@ -427,8 +427,9 @@ impl Maker {
             7 => Spoil::TableLength(table, shorter(dice, lent.tables[table].len())),
             _ if records[table] == 0 => Spoil::Scalar(2, records[0] as u64),
             _ => {
-                let words = records[table] * WIDTHS[table];
-                Spoil::Word(table, dice.below(words as u64) as usize, odd)
+                let record = dice.below(records[table] as u64) as usize;
+                let word = dice.below(WIDTHS[table] as u64) as usize;
+                Spoil::Word(table, lent.place(table, record, word), odd)
             }
         }
     }

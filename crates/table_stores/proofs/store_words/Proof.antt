@@ -1,6 +1,6 @@
+use mathlib.Core.Path.{_∙_}
 use borrow.Author.Needs.{needs}
 use native.Mathlib.Omega.{arith}
-use lib.ListN.{length-set}
 use Rattle.file_format.specs.Words.{words}
 use Rattle.file_records.specs.Laws.{ValidatorThere, validator-good}
 use Rattle.table_stores.specs.Laws.{words-stored}
@@ -57,83 +57,32 @@ number-at-requires-6 : tie.Need-number-at-requires-6
 number-at-requires-6 c κs =
     (omega arith, there (c .before .before .before .before .before .before .before .before) .balance)
 
-mul-at : tie.Need-mul-at
-mul-at c = search needs
-
-mul-validators : tie.Need-mul-validators
-mul-validators c = search needs
-
-slice-write-validators : tie.Need-slice-write-validators
-slice-write-validators c = search needs
-
-add-validators : tie.Need-add-validators
-add-validators c = search needs
-
-mul-validators-2 : tie.Need-mul-validators-2
-mul-validators-2 c = search needs
-
-slice-write-validators-2 : tie.Need-slice-write-validators-2
-slice-write-validators-2 c = simp length-set (omega arith)
-
-add-validators-2 : tie.Need-add-validators-2
-add-validators-2 c = search needs
-
-mul-validators-3 : tie.Need-mul-validators-3
-mul-validators-3 c = search needs
-
-slice-write-validators-3 : tie.Need-slice-write-validators-3
-slice-write-validators-3 c = simp length-set (omega arith)
-
-add-validators-3 : tie.Need-add-validators-3
-add-validators-3 c = search needs
-
-mul-validators-4 : tie.Need-mul-validators-4
-mul-validators-4 c = search needs
-
-slice-write-validators-4 : tie.Need-slice-write-validators-4
-slice-write-validators-4 c = simp length-set (omega arith)
-
-add-validators-4 : tie.Need-add-validators-4
-add-validators-4 c = search needs
-
-mul-validators-5 : tie.Need-mul-validators-5
-mul-validators-5 c = search needs
-
-slice-write-validators-5 : tie.Need-slice-write-validators-5
-slice-write-validators-5 c = simp length-set (omega arith)
-
-add-validators-5 : tie.Need-add-validators-5
-add-validators-5 c = search needs
-
-mul-validators-6 : tie.Need-mul-validators-6
-mul-validators-6 c = search needs
-
-slice-write-validators-6 : tie.Need-slice-write-validators-6
-slice-write-validators-6 c = simp length-set (omega arith)
-
-add-validators-6 : tie.Need-add-validators-6
-add-validators-6 c = search needs
-
-mul-validators-7 : tie.Need-mul-validators-7
-mul-validators-7 c = search needs
-
-slice-write-validators-7 : tie.Need-slice-write-validators-7
-slice-write-validators-7 c = simp length-set (omega arith)
+put-words-requires : tie.Need-put-words-requires
+put-words-requires c κs = search needs
 
 same-length : tie.Need-same-length
-same-length c = simp length-set
+same-length c = search needs
 
 returns : tie.Need-returns
 returns c =
-    let f = c .before .before .before .before .before .before in
-    let a = f .before .before .before .args in
-    words-stored (words (a .file .now)) (a .k) (a .validators .now) (a .n) (f .flag-at .ensures)
-    (c .before .before .before .before .before .number-at .ensures)
-    (c .before .before .before .before .number-at2 .ensures)
-    (c .before .before .before .number-at3 .ensures)
-    (c .before .before .number-at4 .ensures)
-    (c .before .number-at5 .ensures)
-    (c .number-at6 .ensures)
+    let put = c .before .before in
+    let balance = put .before .before in
+    let withdrawable = balance .before in
+    let exit = withdrawable .before in
+    let activation = exit .before in
+    let eligibility = activation .before in
+    let effective = eligibility .before in
+    let slashed = effective .before in
+    let a = slashed .before .before .before .args in
+    put .put-words .ensures
+    ∙ words-stored (words (a .file .now)) (a .k) (a .validators .now) (a .n)
+    (slashed .flag-at .ensures)
+    (effective .number-at .ensures)
+    (eligibility .number-at2 .ensures)
+    (activation .number-at3 .ensures)
+    (exit .number-at4 .ensures)
+    (withdrawable .number-at5 .ensures)
+    (balance .number-at6 .ensures)
 
 pub store-words-spec : {M : Type 1} → statement M
 store-words-spec =
@@ -154,26 +103,6 @@ store-words-spec =
     number-at-requires-5
     add-number-at-6
     number-at-requires-6
-    mul-at
-    mul-validators
-    slice-write-validators
-    add-validators
-    mul-validators-2
-    slice-write-validators-2
-    add-validators-2
-    mul-validators-3
-    slice-write-validators-3
-    add-validators-3
-    mul-validators-4
-    slice-write-validators-4
-    add-validators-4
-    mul-validators-5
-    slice-write-validators-5
-    add-validators-5
-    mul-validators-6
-    slice-write-validators-6
-    add-validators-6
-    mul-validators-7
-    slice-write-validators-7
+    put-words-requires
     same-length
     returns)

@@ -21,47 +21,11 @@ mul-k c = search needs
 add-k : tie.Need-add-k Inv-loop μ-loop
 add-k c = search needs
 
-mul-lay-bytes : tie.Need-mul-lay-bytes Inv-loop μ-loop
-mul-lay-bytes c = search needs
+lay-identity-requires : tie.Need-lay-identity-requires Inv-loop μ-loop
+lay-identity-requires c κs = search needs
 
-lay-bytes-requires : tie.Need-lay-bytes-requires Inv-loop μ-loop
-lay-bytes-requires c κs = search needs
-
-add-lay-bytes : tie.Need-add-lay-bytes Inv-loop μ-loop
-add-lay-bytes c = search needs
-
-mul-lay-bytes-2 : tie.Need-mul-lay-bytes-2 Inv-loop μ-loop
-mul-lay-bytes-2 c = search needs
-
-add-lay-bytes-2 : tie.Need-add-lay-bytes-2 Inv-loop μ-loop
-add-lay-bytes-2 c = search needs
-
-lay-bytes-requires-2 : tie.Need-lay-bytes-requires-2 Inv-loop μ-loop
-lay-bytes-requires-2 c κs = search needs
-
-mul-put : tie.Need-mul-put Inv-loop μ-loop
-mul-put c = search needs
-
-add-count : tie.Need-add-count Inv-loop μ-loop
-add-count c = search needs
-
-count-requires : tie.Need-count-requires Inv-loop μ-loop
-count-requires c κs = search needs
-
-put-requires : tie.Need-put-requires Inv-loop μ-loop
-put-requires c κs = search needs
-
-add-lay-numbers : tie.Need-add-lay-numbers Inv-loop μ-loop
-add-lay-numbers c = search needs
-
-mul-lay-numbers : tie.Need-mul-lay-numbers Inv-loop μ-loop
-mul-lay-numbers c = search needs
-
-add-lay-numbers-2 : tie.Need-add-lay-numbers-2 Inv-loop μ-loop
-add-lay-numbers-2 c = search needs
-
-lay-numbers-requires : tie.Need-lay-numbers-requires Inv-loop μ-loop
-lay-numbers-requires c κs = search needs
+lay-words-requires : tie.Need-lay-words-requires Inv-loop μ-loop
+lay-words-requires c κs = search needs
 
 add-i : tie.Need-add-i Inv-loop μ-loop
 add-i c = search needs
@@ -90,20 +54,8 @@ lay-validators-spec =
     loop-holds
     mul-k
     add-k
-    mul-lay-bytes
-    lay-bytes-requires
-    add-lay-bytes
-    mul-lay-bytes-2
-    add-lay-bytes-2
-    lay-bytes-requires-2
-    mul-put
-    add-count
-    count-requires
-    put-requires
-    add-lay-numbers
-    mul-lay-numbers
-    add-lay-numbers-2
-    lay-numbers-requires
+    lay-identity-requires
+    lay-words-requires
     add-i
     loop-less
     loop-again

@@ -1,12 +1,12 @@
-use mathlib.Core.Path.{_≡_, refl}
+use mathlib.Core.Path.{_≡_, refl, ap, _∙_}
 use mathlib.Core.Bool.{_&&_}
 use Prim.Native.Nat.{_-_, _*_, _≤_}
 use native.Mathlib.Omega.{arith}
 use lib.ListN.{length, take, drop, length-take, length-drop}
 use borrow.Author.Needs.{needs}
 use Rattle.lists.specs.Base.{same-bytes}
-use Rattle.records.specs.Layout.{public-key-at}
 use Rattle.records.specs.Bytes.{same-bytes-more, same-bytes-done, getD-part}
+use Rattle.records.specs.Stores.{key-read}
 use Rattle.records.proofs.registry.has_public_key.Statement.{statement}
 use Rattle.records.proofs.registry.has_public_key.Tie as tie
 
@@ -25,7 +25,7 @@ mul-at c = omega arith
 loop-holds : tie.Need-loop-holds Inv-loop μ-loop
 loop-holds c =
     let ids = c .before .args .identities .now in
-    let at = 80 * c .before .args .i .0 in
+    let at = 48 * c .before .args .i .0 in
     (search needs, omega (arith, length-take 48 (drop at ids), length-drop at ids), omega arith, refl)
 
 array-read-same : tie.Need-array-read-same Inv-loop μ-loop
@@ -47,8 +47,8 @@ loop-again : tie.Need-loop-again Inv-loop μ-loop
 loop-again c =
     let a = c .before .before .before .before .args in
     let l = c .before .before .loop in
-    let key = public-key-at (a .identities .now) (a .i .0) in
-    let byte = getD-part (a .identities .now) (80 * a .i .0) 48 (l .j) (omega arith) in (
+    let key = take 48 (drop (48 * a .i .0) (a .identities .now)) in
+    let byte = getD-part (a .identities .now) (48 * a .i .0) 48 (l .j) (omega arith) in (
       l .inv .0,
       l .inv .1,
       omega arith,
@@ -57,10 +57,12 @@ loop-again c =
 
 returns : tie.Need-returns Inv-loop μ-loop
 returns c =
-    let a = c .before .before .before .args in
+    let start = c .before .before .before in
+    let a = start .args in
     let l = c .before .loop in
-    let key = public-key-at (a .identities .now) (a .i .0) in
+    let key = take 48 (drop (48 * a .i .0) (a .identities .now)) in
     same-bytes-done (a .t3) key (l .j) (l .same) (l .inv .3) (omega arith) (omega arith)
+    ∙ ap (same-bytes (a .t3)) (key-read (a .identities .now) (a .i .0) (start .pre))
 
 pub has-public-key-spec : {M : Type 1} → statement M
 has-public-key-spec =

@@ -1,47 +1,35 @@
-use mathlib.Core.Path.{refl}
+use mathlib.Core.Path.{ap}
+use Prim.Native.Nat.{_+_}
 use native.Mathlib.Omega.{arith}
 use borrow.Author.Needs.{needs}
+use Rattle.rules.specs.Update.{with-balance}
+use Rattle.records.specs.Layout.{validator-at}
 use Rattle.records.specs.Stores.{balance-stored}
 use Rattle.records.proofs.registry.increase_balance.Statement.{statement}
 use Rattle.records.proofs.registry.increase_balance.Tie as tie
 
-mul-at : tie.Need-mul-at
-mul-at c = search needs
+word-at-requires : tie.Need-word-at-requires
+word-at-requires c κs = search needs
 
-add-at : tie.Need-add-at
-add-at c = search needs
+add-increased : tie.Need-add-increased
+add-increased c = search needs
 
-mul-validators : tie.Need-mul-validators
-mul-validators c = search needs
-
-slice-read-validators : tie.Need-slice-read-validators
-slice-read-validators c = search needs
-
-add-validators : tie.Need-add-validators
-add-validators c = search needs
-
-mul-validators-2 : tie.Need-mul-validators-2
-mul-validators-2 c = search needs
-
-slice-write-validators : tie.Need-slice-write-validators
-slice-write-validators c = search needs
+set-word-requires : tie.Need-set-word-requires
+set-word-requires c κs = search needs
 
 same-length : tie.Need-same-length
 same-length c = search needs
 
 returns : tie.Need-returns
-returns c = balance-stored (omega arith) _ (λ ids. refl)
+returns c =
+    let at-set = c .before .before in
+    let at-word = at-set .before .before .before in
+    let a = at-word .before .before .before .args in
+    rw (at-set .set-word .ensures)
+    (balance-stored (omega arith) _ (λ ids.
+    ap (λ x. with-balance (x + a .delta .0) (validator-at ids (a .validators .now) (a .i .0)))
+    (at-word .word-at .ensures)))
 
 pub increase-balance-spec : {M : Type 1} → statement M
 increase-balance-spec =
-    tie.close
-    (tie.spec
-    mul-at
-    add-at
-    mul-validators
-    slice-read-validators
-    add-validators
-    mul-validators-2
-    slice-write-validators
-    same-length
-    returns)
+    tie.close (tie.spec word-at-requires add-increased set-word-requires same-length returns)

@@ -1,5 +1,4 @@
 use mathlib.Core.Path.{_≡_}
-use native.Mathlib.Omega.{arith}
 use lib.ListN.{length}
 use borrow.Author.Needs.{needs}
 use Rattle.records.specs.Plain.{plain-validator}
@@ -7,17 +6,14 @@ use Rattle.records.specs.Stores.{validator-stored}
 use Rattle.records.proofs.registry.push_validator.Statement.{statement}
 use Rattle.records.proofs.registry.push_validator.Tie as tie
 
+credentials-place-requires : tie.Need-credentials-place-requires
+credentials-place-requires c κs = search needs
+
 mul-put48 : tie.Need-mul-put48
 mul-put48 c = search needs
 
 put48-requires : tie.Need-put48-requires
 put48-requires c κs = search needs
-
-mul-put32 : tie.Need-mul-put32
-mul-put32 c = search needs
-
-add-put32 : tie.Need-add-put32
-add-put32 c = search needs
 
 put32-requires : tie.Need-put32-requires
 put32-requires c κs = search needs
@@ -39,23 +35,24 @@ credentials-size c = search needs
 
 returns : tie.Need-returns
 returns c =
-    let q = c .before .before in
-    let p = q .before .before .before .before in
-    let k = p .before .before .before .before in
-    let start = k .before .before .before .before .before .before in
+    let at-words = c .before .before in
+    let at-32 = at-words .before .before .before .before in
+    let at-48 = at-32 .before .before .before .before in
+    let at-place = at-48 .before .before in
+    let start = at-place .before .before .before .before .before .before in
     let a = start .args in
     validator-stored (a .identities .now) (a .validators .now) (a .n) (plain-validator (a .v))
-    (omega arith) (omega arith) (key-size start) (credentials-size start)
-    (k .put48 .ensures) (p .put32 .ensures) (q .put-words .ensures)
+    (start .pre .0) (start .pre .1) (key-size start) (credentials-size start)
+    (at-48 .put48 .ensures) (rw (at-place .credentials-place .ensures) at (at-32 .put32 .ensures))
+    (at-words .put-words .ensures)
 
 pub push-validator-spec : {M : Type 1} → statement M
 push-validator-spec =
     tie.close
     (tie.spec
+    credentials-place-requires
     mul-put48
     put48-requires
-    mul-put32
-    add-put32
     put32-requires
     put-words-requires
     same-length

@@ -5,24 +5,17 @@ use Rattle.records.specs.Stores.{effective-balance-stored}
 use Rattle.records.proofs.registry.set_effective_balance.Statement.{statement}
 use Rattle.records.proofs.registry.set_effective_balance.Tie as tie
 
-mul-at : tie.Need-mul-at
-mul-at c = search needs
-
-add-at : tie.Need-add-at
-add-at c = search needs
-
-mul-validators : tie.Need-mul-validators
-mul-validators c = search needs
-
-slice-write-validators : tie.Need-slice-write-validators
-slice-write-validators c = search needs
+set-word-requires : tie.Need-set-word-requires
+set-word-requires c κs = search needs
 
 same-length : tie.Need-same-length
 same-length c = search needs
 
 returns : tie.Need-returns
-returns c = effective-balance-stored (omega arith) (c .before .args .balance .0) (λ ids. refl)
+returns c =
+    let at-set = c .before .before in
+    rw (at-set .set-word .ensures)
+    (effective-balance-stored (omega arith) (at-set .before .before .before .args .balance .0) (λ ids. refl))
 
 pub set-effective-balance-spec : {M : Type 1} → statement M
-set-effective-balance-spec =
-    tie.close (tie.spec mul-at add-at mul-validators slice-write-validators same-length returns)
+set-effective-balance-spec = tie.close (tie.spec set-word-requires same-length returns)

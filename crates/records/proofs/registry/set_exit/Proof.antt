@@ -1,50 +1,26 @@
 use mathlib.Core.Path.{refl}
 use native.Mathlib.Omega.{arith}
-use lib.ListN.{length-set}
 use borrow.Author.Needs.{needs}
 use Rattle.records.specs.Stores.{exit-stored}
 use Rattle.records.proofs.registry.set_exit.Statement.{statement}
 use Rattle.records.proofs.registry.set_exit.Tie as tie
 
-mul-at : tie.Need-mul-at
-mul-at c = search needs
+set-word-requires : tie.Need-set-word-requires
+set-word-requires c κs = search needs
 
-add-validators : tie.Need-add-validators
-add-validators c = search needs
-
-mul-validators : tie.Need-mul-validators
-mul-validators c = search needs
-
-slice-write-validators : tie.Need-slice-write-validators
-slice-write-validators c = search needs
-
-add-validators-2 : tie.Need-add-validators-2
-add-validators-2 c = search needs
-
-mul-validators-2 : tie.Need-mul-validators-2
-mul-validators-2 c = search needs
-
-slice-write-validators-2 : tie.Need-slice-write-validators-2
-slice-write-validators-2 c = simp length-set (omega arith)
+set-word-requires-2 : tie.Need-set-word-requires-2
+set-word-requires-2 c κs = search needs
 
 same-length : tie.Need-same-length
 same-length c = search needs
 
 returns : tie.Need-returns
 returns c =
-    let a = c .before .args in
-    exit-stored (omega arith) (a .exit .0) (a .withdrawable .0) (λ ids. refl)
+    let at-withdrawable = c .before .before in
+    let at-exit = at-withdrawable .before .before .before .before in
+    let a = at-exit .before .before .before .args in
+    rw (at-withdrawable .set-word2 .ensures, at-exit .set-word .ensures)
+    (exit-stored (omega arith) (a .exit .0) (a .withdrawable .0) (λ ids. refl))
 
 pub set-exit-spec : {M : Type 1} → statement M
-set-exit-spec =
-    tie.close
-    (tie.spec
-    mul-at
-    add-validators
-    mul-validators
-    slice-write-validators
-    add-validators-2
-    mul-validators-2
-    slice-write-validators-2
-    same-length
-    returns)
+set-exit-spec = tie.close (tie.spec set-word-requires set-word-requires-2 same-length returns)
