@@ -1,5 +1,6 @@
 pub mod Tests
 pub mod Laws
+pub mod Quick
 pub mod Sound
 pub mod Books
 pub mod Handed

@@ -1,5 +1,6 @@
 // The tests of what is handed in: settings, lent buffers and books; and the sum that accepted books hold.
 pub mod passes; // one pass over each table
+pub mod quick; // one pass over the bits of all validators
 pub mod record; // the tests of one record
 
 use primitives::BOUND;

@@ -1,4 +1,5 @@
 // One pass over each table.
+use crate::quick::small_sum;
 use crate::record::consolidation_in;
 use crate::record::partial_within;
 use crate::record::validator_within;
@@ -21,6 +22,25 @@ ghost use Rattle.acceptance.specs.Held.{balances-in, amounts-in};
 
 // The sum of the first n balances; BOUND + 1 where it is over BOUND, or a validator fails its tests.
 pub fn validators_sum(most: Gwei, validators: &[u64], n: usize) -> Gwei
+    requires { ⌜ n ≤ validators-fit (now validators) ⌝ }
+    ensures { λ r. ⌜
+        ((ids : List ℕ)
+        → r .0
+        ≡ tested-sum (validator-within (most .0)) (λ v. v .balance) 0
+        (rows n (validator-at ids (now (validators .entry)))))
+        ⌝ }
+{
+    if n <= 0x1_0000 {
+        let sum = small_sum(most, validators, n);
+        if sum.0 <= BOUND {
+            return sum;
+        }
+    }
+    sum_one_by_one(most, validators, n)
+}
+
+// The same, with each validator tested.
+fn sum_one_by_one(most: Gwei, validators: &[u64], n: usize) -> Gwei
     requires { ⌜ n ≤ validators-fit (now validators) ⌝ }
     ensures { λ r. ⌜
         ((ids : List ℕ)

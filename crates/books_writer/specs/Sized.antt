@@ -2,13 +2,13 @@
 use mathlib.Core.Path.{_≡_, refl}
 use mathlib.Core.Bool.{Bool, true}
 use mathlib.Core.List.{List, [], _∷_}
-use Prim.Native.Nat.{ℕ, zero, suc, _+_, _*_, _≤_, _<_, _^_, suc-le-suc}
+use Prim.Native.Nat.{ℕ, zero, suc, _+_, _*_, _≤_, _<_, _^_}
 use native.Mathlib.Omega.{arith}
 use lib.ListN.{length, getD, take, drop, length-take, length-drop}
 use borrow.Author.Tests.{eq-eqb, lt-ltb}
 use Rattle.lists.specs.Base.{every}
 use Rattle.lists.specs.Laws.{both, join, every-drop}
-use Rattle.tables.specs.Rows.{rows}
+use Rattle.tables.specs.Tests.{every-rows}
 use Rattle.primitives.specs.declared.Scalars.{Scalars}
 use Rattle.records.specs.Layout.{validator-at, public-key-at, withdrawal-credentials-at, identities-fit}
 use Rattle.records.specs.Books.{Tables, books-of}
@@ -29,13 +29,6 @@ every-take p (suc n) (x ∷ xs) e =
 pub slice-bytes : (xs : List ℕ) → ((i : ℕ) → getD xs i 0 < 256) → every is-byte xs ≡ true
 slice-bytes [] h = refl
 slice-bytes (x ∷ xs) h = join (lt-ltb x 256 (h 0)) (slice-bytes xs (λ i. h (suc i)))
-
-every-rows : {A : Type 0} (p : A → Bool) (n : ℕ) (g : ℕ → A) → ((i : ℕ) → i < n → p (g i) ≡ true)
-    → every p (rows n g) ≡ true
-unfolding rows
-every-rows p zero g h = refl
-every-rows p (suc n) g h =
-    join (h 0 (omega arith)) (every-rows p n (λ k. g (suc k)) (λ i q. h (suc i) (suc-le-suc q)))
 
 -- a part of a table of bytes
 part-bytes : (n at : ℕ) (xs : List ℕ) → at + n ≤ length xs → every is-byte xs ≡ true

@@ -1,11 +1,20 @@
 -- Tests of every record of a table.
 use mathlib.Core.Path.{_≡_, refl, ap, sym, _∙_}
 use mathlib.Core.Bool.{Bool, true, false, _&&_}
-use Prim.Native.Nat.{ℕ, _+_, _≤_, _<_}
+use Prim.Native.Nat.{ℕ, zero, suc, _+_, _≤_, _<_, suc-le-suc}
+use native.Mathlib.Omega.{arith}
 use lib.ListN.{drop}
 use Rattle.lists.specs.Base.{every}
-use Rattle.lists.specs.Laws.{every-at}
+use Rattle.lists.specs.Laws.{every-at, join}
 use Rattle.tables.specs.Rows.{rows, length-rows, getD-rows, drop-rows-at, drop-rows-end}
+
+-- all records pass
+pub every-rows : {A : Type 0} (p : A → Bool) (n : ℕ) (g : ℕ → A) → ((i : ℕ) → i < n → p (g i) ≡ true)
+    → every p (rows n g) ≡ true
+unfolding rows
+every-rows p zero g h = refl
+every-rows p (suc n) g h =
+    join (h 0 (omega arith)) (every-rows p n (λ k. g (suc k)) (λ i q. h (suc i) (suc-le-suc q)))
 
 module _ {A : Type 0} (p : A → Bool) (n : ℕ) (g : ℕ → A) where
   pub every-step : (i : ℕ) → i < n
