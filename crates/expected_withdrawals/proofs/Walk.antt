@@ -116,25 +116,26 @@ module _ (settings : Settings) (s : Scalars) (ids vs : List ℕ) (listed : Expec
         sym (sweep-full (settings-of settings) (books-of s (tables ids vs ds ps cs)) (bound - k) i e h)
         ∙ w .left ds ps cs
 
-    pub sweeping-more : {next : ExpectedWithdrawals} → k < bound → e .count < settings .«max_withdrawals_per_payload»
+    pub sweeping-more : {next : ExpectedWithdrawals} {j : ℕ} → k < bound
+        → e .count < settings .«max_withdrawals_per_payload» → j ≡ (i + 1) % s .validators
         → next
         ≡ list-validator (settings-of settings) (s .epoch .0) (s .«next_withdrawal_index» .0) i
         (validator-at ids vs i) e
-        → Sweeping bound next ((i + 1) % s .validators) (k + 1)
+        → Sweeping bound next j (k + 1)
     unfolding books-of
-    sweeping-more {next} h r t = record {
+    sweeping-more {next} {j} h r d t = record {
       most = omega arith;
-      inside = mod-lt (i + 1) (omega (arith, w .inside));
+      inside = rw d (mod-lt (i + 1) (omega (arith, w .inside)));
       left = turn;
     }
       where
         more : bound - k ≡ suc (bound - (k + 1))
         more = omega arith
 
-        turn : (ds ps cs : List ℕ) → swept ds ps cs (bound - (k + 1)) ((i + 1) % s .validators) next ≡ whole ds ps cs
+        turn : (ds ps cs : List ℕ) → swept ds ps cs (bound - (k + 1)) j next ≡ whole ds ps cs
         turn ds ps cs =
             let t₀ = tables ids vs ds ps cs in
-            ap₂ (λ n x. swept ds ps cs (bound - (k + 1)) ((i + 1) % n) x) (sym (validators-count s t₀)) t
+            ap₂ (swept ds ps cs (bound - (k + 1))) (d ∙ ap (λ n. (i + 1) % n) (sym (validators-count s t₀))) t
             ∙ sym
             (sweep-step (settings-of settings) (books-of s t₀) (bound - (k + 1)) i (validator-at ids vs i) e r
             (sym (validator-read s t₀ i (w .inside))))

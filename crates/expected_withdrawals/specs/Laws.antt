@@ -1,19 +1,20 @@
 -- The laws of the loops: one entry or validator, a full list, the end; and what the list holds after both loops.
 use mathlib.Core.Path.{_≡_, refl, ap, sym, _∙_}
 use mathlib.Core.Logic.{_≢_}
-use mathlib.Core.Bool.{Bool, true, false, _&&_}
+use mathlib.Core.Bool.{Bool, true, false, false≢true, _&&_, _||_}
 use mathlib.Core.List.{List, [], _∷_, _++_, map, append-assoc, append-nil}
 use Prim.Native.Nat.{ℕ, zero, suc, _+_, _-_, _%_, _≤_, _<_, min}
 use native.Mathlib.Nat.{add-zero, sub-zero, le-of-suc-le-suc, not-suc-le-zero}
 use native.Mathlib.Omega.{arith}
 use lib.ListN.{length, set, length-append}
 use lib.Dec.{ltb, leb, eqb}
-use borrow.Author.Tests.{le-leb, lt-leb, lt-ltb, le-ltb, ltb-true, ltb-false, eq-eqb, ne-eqb}
+use borrow.Author.Tests.{lt-ltb, le-ltb, ltb-true, eqb-true}
 use Rattle.lists.specs.Base.{if_then_else_}
-use Rattle.lists.specs.Laws.{by-test, both}
+use Rattle.lists.specs.Laws.{both, and-false}
 use Rattle.rules.specs.Types as rule
 use Rattle.rules.specs.Types.{FAR}
-use Rattle.rules.specs.Helpers.{at, count, prefix}
+use Rattle.rules.specs.Helpers.{at, count, has-execution-withdrawal-credential}
+use Rattle.rules.specs.Helpers.{get-validator-max-effective-balance}
 use Rattle.rules.specs.Helpers.{is-fully-withdrawable-validator, is-partially-withdrawable-validator}
 use Rattle.rules.specs.BlockProcessing.{is-partial-payable, sweep-amount, partial-withdrawals, sweep-withdrawals}
 use Rattle.rules.specs.BlockProcessing.{expected-partial-withdrawals, get-expected-withdrawals}
@@ -21,69 +22,68 @@ use Rattle.rule_laws.specs.Withdrawals.{partial-withdrawals-length, sweep-withd
 use Rattle.expected_withdrawals.specs.declared.ExpectedWithdrawals.{ExpectedWithdrawals}
 use Rattle.expected_withdrawals.specs.Expected.{coded-withdrawal, padded, sixteen, no-withdrawals, expected-of}
 use Rattle.expected_withdrawals.specs.Listing.{pushed, pushes, with-partials-counted, withdrawal-of}
-use Rattle.expected_withdrawals.specs.Listing.{partial-amount, list-partial, withdrawable-amount, list-validator}
+use Rattle.expected_withdrawals.specs.Listing.{partial-amount, list-partial, may-withdraw, list-validator}
 use Rattle.expected_withdrawals.specs.Listing.{list-partials, list-swept}
 
 -- ---- what the sweep takes of one validator
 
--- a balance of 0, and one that does not stand above the maximum, give 0 without a test of their own
-amounts : (balance max : ℕ) (withdrawable at-max : Bool)
-    → (if withdrawable then balance else if at-max then balance - max else 0)
-    ≡ (if withdrawable && ltb 0 balance then balance else if at-max && ltb max balance then balance - max else 0)
-unfolding if_then_else_
-amounts balance max true at-max =
-    by-test (λ (x : ℕ). balance ≡ x) (ltb 0 balance) (λ e. refl)
-    (λ e.
-    let zero-balance : balance ≤ 0 = ltb-false 0 balance e in
-    by-test (λ (x : ℕ). balance ≡ x) (at-max && ltb max balance) (λ f. omega arith) (λ f. omega arith))
-amounts balance max false true =
-    by-test (λ (x : ℕ). balance - max ≡ x) (ltb max balance) (λ e. refl)
-    (λ e. let low : balance ≤ max = ltb-false max balance e in omega arith)
-amounts balance max false false = refl
+neither : (s t : Bool) → (s || t) ≡ false → (s ≡ false) × (t ≡ false)
+neither true t e = (e, absurd (false≢true (sym e)))
+neither false t e = (refl, e)
 
 module _ (S : rule.Settings) (epoch : ℕ) (v : rule.Validator) where
-  pub compounding-amount : prefix (v .withdrawal-credentials) ≡ 2 → {amount : ℕ}
-      → amount ≡ withdrawable-amount (S .max-effective-balance-electra) epoch v → amount ≡ sweep-amount S epoch v
-  unfolding withdrawable-amount sweep-amount if_then_else_
-      is-fully-withdrawable-validator is-partially-withdrawable-validator
-  compounding-amount p q =
-      let max = S .max-effective-balance-electra in
-      q ∙ rw p (amounts (v .balance) max (leb (v .withdrawable-epoch) epoch) (eqb (v .effective-balance) max))
+  pub full-amount : is-fully-withdrawable-validator epoch v ≡ true → v .balance ≡ sweep-amount S epoch v
+  unfolding sweep-amount if_then_else_
+  full-amount f = rw f
 
-  pub eth1-amount : prefix (v .withdrawal-credentials) ≡ 1 → {amount : ℕ}
-      → amount ≡ withdrawable-amount (S .min-activation-balance) epoch v → amount ≡ sweep-amount S epoch v
-  unfolding withdrawable-amount sweep-amount if_then_else_
-      is-fully-withdrawable-validator is-partially-withdrawable-validator
-  eth1-amount p q =
-      let max = S .min-activation-balance in
-      q ∙ rw p (amounts (v .balance) max (leb (v .withdrawable-epoch) epoch) (eqb (v .effective-balance) max))
+  module _ (f : is-fully-withdrawable-validator epoch v ≡ false) where
+    pub partial-taken : is-partially-withdrawable-validator S v ≡ true
+        → v .balance - get-validator-max-effective-balance S v ≡ sweep-amount S epoch v
+    unfolding sweep-amount if_then_else_
+    partial-taken p = rw f (rw p)
 
-  pub no-amount : prefix (v .withdrawal-credentials) ≢ 2 → prefix (v .withdrawal-credentials) ≢ 1
-      → 0 ≡ sweep-amount S epoch v
-  unfolding sweep-amount is-fully-withdrawable-validator is-partially-withdrawable-validator if_then_else_
-  no-amount p q = simp (ne-eqb _ _ p, ne-eqb _ _ q)
+    pub none-taken : is-partially-withdrawable-validator S v ≡ false → 0 ≡ sweep-amount S epoch v
+    unfolding sweep-amount if_then_else_
+    none-taken p = rw f (rw p)
 
--- the same, test by test, of the words that were read
-module _ (max epoch : ℕ) (v : rule.Validator) {withdrawable : ℕ} (w : withdrawable ≡ v .withdrawable-epoch) where
-  pub amount-all : withdrawable ≤ epoch → {balance : ℕ} → balance ≡ v .balance
-      → balance ≡ withdrawable-amount max epoch v
-  unfolding withdrawable-amount if_then_else_
-  amount-all h q =
-      let t : leb (v .withdrawable-epoch) epoch ≡ true = le-leb _ _ (rw w at h) in
-      rw t q
+  pub partial-room : is-partially-withdrawable-validator S v ≡ true
+      → get-validator-max-effective-balance S v ≤ v .balance
+  unfolding is-partially-withdrawable-validator
+  partial-room p =
+      let max = get-validator-max-effective-balance S v in
+      let tests = has-execution-withdrawal-credential v && eqb (v .effective-balance) max in
+      omega (arith, ltb-true max (v .balance) (both tests (ltb max (v .balance)) p .1))
 
-  module _ (h : epoch < withdrawable) {effective : ℕ} (q : effective ≡ v .effective-balance) where
+  -- nothing is taken where the first look says so
+  module _ (n : may-withdraw epoch v ≡ false) where
     later : leb (v .withdrawable-epoch) epoch ≡ false
-    later = lt-leb _ _ (rw w at h)
+    later = neither (leb (v .withdrawable-epoch) epoch) (ltb (v .effective-balance) (v .balance)) n .0
 
-    pub amount-none : effective ≢ max → 0 ≡ withdrawable-amount max epoch v
-    unfolding withdrawable-amount if_then_else_
-    amount-none d = simp (later, ne-eqb _ _ (λ e. d (q ∙ e)))
+    low : ltb (v .effective-balance) (v .balance) ≡ false
+    low = neither (leb (v .withdrawable-epoch) epoch) (ltb (v .effective-balance) (v .balance)) n .1
 
-    pub amount-above : effective ≡ max → {amount : ℕ} → amount ≡ v .balance - max
-        → amount ≡ withdrawable-amount max epoch v
-    unfolding withdrawable-amount if_then_else_
-    amount-above e a = simp (later, eq-eqb _ _ (sym q ∙ e)) a
+    not-fully : is-fully-withdrawable-validator epoch v ≡ false
+    unfolding is-fully-withdrawable-validator
+    not-fully = ap (λ t. t && ltb 0 (v .balance)) (and-false (has-execution-withdrawal-credential v) _ later)
+
+    not-partially : is-partially-withdrawable-validator S v ≡ false
+    unfolding is-partially-withdrawable-validator
+    not-partially = go (eqb (v .effective-balance) max) refl
+      where
+        max : ℕ
+        max = get-validator-max-effective-balance S v
+
+        go : (t : Bool) → eqb (v .effective-balance) max ≡ t
+            → (has-execution-withdrawal-credential v && eqb (v .effective-balance) max && ltb max (v .balance)) ≡ false
+        go true e =
+            and-false (has-execution-withdrawal-credential v && eqb (v .effective-balance) max) (ltb max (v .balance))
+            (ap (λ m. ltb m (v .balance)) (sym (eqb-true (v .effective-balance) max e)) ∙ low)
+        go false e =
+            ap (λ t. t && ltb max (v .balance))
+            (and-false (has-execution-withdrawal-credential v) (eqb (v .effective-balance) max) e)
+
+    pub no-amount : 0 ≡ sweep-amount S epoch v
+    no-amount = none-taken not-fully not-partially
 
 -- ---- one entry, one validator
 

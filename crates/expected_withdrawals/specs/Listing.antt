@@ -1,8 +1,9 @@
 -- The expected withdrawals listed one by one, as the code's loops list them.
+use mathlib.Core.Bool.{Bool, _||_}
 use mathlib.Core.List.{List, [], _∷_}
 use Prim.Native.Nat.{ℕ, _+_, _-_, min}
 use lib.ListN.{set}
-use lib.Dec.{leb, ltb, eqb}
+use lib.Dec.{leb, ltb}
 use Rattle.lists.specs.Base.{if_then_else_}
 use Rattle.rules.specs.Types as rule
 use Rattle.rules.specs.Helpers.{withdrawal-address}
@@ -48,12 +49,9 @@ list-partial S first p v e =
     then pushed e (withdrawal-of first (e .count) (p .index) v (partial-amount S p v))
     else e
 
--- what the sweep takes of a validator whose credential lets it withdraw
-unfoldable pub withdrawable-amount : (max-effective-balance epoch : ℕ) → rule.Validator → ℕ
-withdrawable-amount max-effective-balance epoch v =
-    if leb (v .withdrawable-epoch) epoch then v .balance
-    else if eqb (v .effective-balance) max-effective-balance then v .balance - max-effective-balance
-    else 0
+-- the sweep takes nothing of the others
+abbrev pub may-withdraw : (epoch : ℕ) → rule.Validator → Bool
+may-withdraw epoch v = leb (v .withdrawable-epoch) epoch || ltb (v .effective-balance) (v .balance)
 
 -- validator i, which is v, is listed or passed
 unfoldable pub list-validator : rule.Settings → (epoch first i : ℕ) → rule.Validator

@@ -11,7 +11,7 @@ use primitives::min_usize;
 use records::queues::PendingPartialWithdrawal;
 ghost use mathlib.Core.Path.{_≡_};
 ghost use mathlib.Core.List.{List};
-ghost use Prim.Native.Nat.{ℕ, _-_, _<_, _≤_, _^_, min};
+ghost use Prim.Native.Nat.{ℕ, _+_, _-_, _%_, _<_, _≤_, _^_, min};
 ghost use Rattle.rules.specs.BlockProcessing.{is-partial-payable, sweep-amount};
 ghost use Rattle.primitives.specs.Settings.{settings-of};
 ghost use Rattle.records.specs.Layout.{validator-at, balance-at, partial-at, identities-fit, validators-fit};
@@ -19,7 +19,7 @@ ghost use Rattle.records.specs.Plain.{plain-partial};
 ghost use Rattle.records.specs.Books.{books-of, tables};
 ghost use Rattle.tables.specs.Rows.{rows};
 ghost use Rattle.expected_withdrawals.specs.Expected.{no-withdrawals, expected-of};
-ghost use Rattle.expected_withdrawals.specs.Listing.{pushed, withdrawal-of, withdrawable-amount};
+ghost use Rattle.expected_withdrawals.specs.Listing.{pushed, withdrawal-of, may-withdraw};
 ghost use Rattle.expected_withdrawals.specs.Listing.{partial-amount, list-partials, list-swept};
 ghost use Rattle.expected_withdrawals.specs.Ready.{SweepReady, Ready};
 
@@ -118,30 +118,21 @@ fn partial_amount(settings: Settings, validators: &[u64], p: PendingPartialWithd
     min(Gwei(above), p.amount)
 }
 
-// What the sweep takes of validator i, whose credential lets it withdraw, with this maximum effective balance.
-fn withdrawable_amount(max: Gwei, epoch: Epoch, validators: &[u64], i: ValidatorIndex) -> Gwei
+// Whether the sweep may take something of validator i, by three of its words. Most validators are passed so, and the
+// rest of their records is not read.
+fn may_withdraw(epoch: Epoch, validators: &[u64], i: ValidatorIndex) -> bool
     requires { ⌜ i .0 < validators-fit (now validators) ⌝ }
     ensures { λ r. ⌜
-        ((ids : List ℕ)
-        → r .0 ≡ withdrawable-amount (max .0) (epoch .0) (validator-at ids (now (validators .entry)) (i .0)))
+        ((ids : List ℕ) → r ≡ may-withdraw (epoch .0) (validator-at ids (now (validators .entry)) (i .0)))
         ⌝ }
 {
-    let balance = records::registry::balance_at(validators, i);
     let withdrawable = records::registry::withdrawable_epoch_at(validators, i);
-    if withdrawable.0 <= epoch.0 {
-        return balance;
-    }
     let effective = records::registry::effective_balance_at(validators, i);
-    if effective.0 != max.0 {
-        return Gwei(0);
-    }
-    if balance.0 < max.0 {
-        return Gwei(0);
-    }
-    Gwei(balance.0 - max.0)
+    let balance = records::registry::balance_at(validators, i);
+    withdrawable.0 <= epoch.0 || effective.0 < balance.0
 }
 
-// What the sweep takes of validator i. Of the identities it reads one byte.
+// What the sweep takes of validator i.
 fn sweep_amount(
     settings: Settings,
     epoch: Epoch,
@@ -155,16 +146,18 @@ fn sweep_amount(
         (validator-at (now (identities .entry)) (now (validators .entry)) (i .0))
         ⌝ }
 {
-    let prefix = records::registry::prefix_at(identities, i);
-    if prefix == 2 {
-        let max = settings.max_effective_balance_electra;
-        return withdrawable_amount(max, epoch, validators, i);
+    if !may_withdraw(epoch, validators, i) {
+        return Gwei(0);
     }
-    if prefix == 1 {
-        let max = settings.min_activation_balance;
-        return withdrawable_amount(max, epoch, validators, i);
+    let v = records::registry::validator_at(identities, validators, i);
+    if v.is_fully_withdrawable_validator(epoch) {
+        return v.balance;
     }
-    Gwei(0)
+    if !v.is_partially_withdrawable_validator(settings) {
+        return Gwei(0);
+    }
+    let max = v.get_validator_max_effective_balance(settings);
+    Gwei(v.balance.0 - max.0)
 }
 
 // The waiting partial withdrawals that are paid.
@@ -206,6 +199,19 @@ fn partial_withdrawals(
     e
 }
 
+// The index behind i around a registry of n. The sweep asks for each validator, and a comparison is much faster than a
+// division.
+fn index_after(i: usize, n: usize) -> usize
+    requires { ⌜ i < n ⌝ }
+    ensures { λ r. ⌜ r ≡ (i + 1) % n ⌝ }
+{
+    let next = i + 1;
+    if next == n {
+        return 0;
+    }
+    next
+}
+
 // The sweep around the registry, behind the withdrawals that are listed.
 fn sweep_withdrawals(
     settings: Settings,
@@ -245,7 +251,7 @@ fn sweep_withdrawals(
         if 0 < amount.0 {
             e = e.push(first, identities, validators, ValidatorIndex(i), amount);
         }
-        i = (i + 1) % n;
+        i = index_after(i, n);
         k += 1;
     }
     e

@@ -7,6 +7,7 @@ use lib.Dec.{ltb}
 use Rattle.lists.specs.Base.{every}
 use Rattle.rules.specs.Types.{Settings, Validator, Books}
 use Rattle.rules.specs.Types.{PendingBalanceDeposit, PendingPartialWithdrawal, PendingConsolidation}
+use Rattle.rules.specs.Profiles.{settings-from}
 use Rattle.file_format.specs.Words.{books-head}
 use Rattle.file_format.specs.Fields.{Format, number, is-field, field, flag, _⊗_, by-parts, many, counted, headed}
 
@@ -35,31 +36,8 @@ settings-numbers S =
     ∷ S .pending-consolidations-limit
     ∷ []
 
-abbrev pub settings-of : List ℕ → Settings
-settings-of xs = record {
-  min-activation-balance = getD xs 0 0;
-  max-effective-balance-electra = getD xs 1 0;
-  effective-balance-increment = getD xs 2 0;
-  min-per-epoch-churn-limit-electra = getD xs 3 0;
-  max-per-epoch-activation-exit-churn-limit = getD xs 4 0;
-  churn-limit-quotient = getD xs 5 0;
-  shard-committee-period = getD xs 6 0;
-  min-validator-withdrawability-delay = getD xs 7 0;
-  max-seed-lookahead = getD xs 8 0;
-  hysteresis-quotient = getD xs 9 0;
-  hysteresis-downward-multiplier = getD xs 10 0;
-  hysteresis-upward-multiplier = getD xs 11 0;
-  max-pending-partials-per-withdrawals-sweep = getD xs 12 0;
-  max-withdrawals-per-payload = getD xs 13 0;
-  max-validators-per-withdrawals-sweep = getD xs 14 0;
-  validator-registry-limit = getD xs 15 0;
-  pending-balance-deposits-limit = getD xs 16 0;
-  pending-partial-withdrawals-limit = getD xs 17 0;
-  pending-consolidations-limit = getD xs 18 0;
-}
-
 unfoldable pub settings : Format Settings
-settings = by-parts (many number 19) settings-numbers settings-of
+settings = by-parts (many number 19) settings-numbers settings-from
 
 -- ---- a validator: key, credentials, the flag slashed, six numbers
 
@@ -153,8 +131,8 @@ books-parts b =
       ),
     )
 
-abbrev pub books-of : BooksParts → Books
-books-of p =
+abbrev pub books-from : BooksParts → Books
+books-from p =
     let xs = p .0 in
     record {
       epoch = getD xs 0 0;
@@ -172,8 +150,8 @@ books-of p =
       pending-consolidations = p .1 .1 .1 .1;
     }
 
--- Any count of 28 bits is read, if the file has as many records: whether it is within the limit of the settings is not
--- the format's business (such books are answered 2, not 60).
+-- Any count of 28 bits is read, if the file has as many records; books with more than the settings allow are answered 2,
+-- not 60.
 abbrev pub list-of : {A : Type 0} → Format A → Format (List A)
 list-of F = counted (2 ^ 28) F
 
@@ -181,7 +159,7 @@ unfoldable pub books : Format Books
 books =
     by-parts
     (many number 9 ⊗ list-of validator ⊗ list-of deposit ⊗ list-of partial ⊗ list-of consolidation)
-    books-parts books-of
+    books-parts books-from
 
 unfoldable pub books-format : Format (Settings × Books)
 books-format = headed books-head (settings ⊗ books)

@@ -7,13 +7,14 @@ use native.Mathlib.Omega.{arith}
 use lib.ListN.{getD}
 use Rattle.lists.specs.Laws.{both}
 use Rattle.tables.specs.Rows.{rows, rows-getD}
+use Rattle.rules.specs.Profiles.{settings-from}
 use Rattle.file_format.specs.Words.{books-head}
 use Rattle.file_format.specs.Fields.{Format, number, flag, field, _⊗_, many}
-use Rattle.file_format.specs.Books.{settings, settings-numbers, settings-of, validator, ValidatorParts}
+use Rattle.file_format.specs.Books.{settings, settings-numbers, validator, ValidatorParts}
 use Rattle.file_format.specs.Books.{validator-parts, validator-of, deposit, deposit-numbers, deposit-of}
 use Rattle.file_format.specs.Books.{partial, partial-numbers, partial-of}
 use Rattle.file_format.specs.Books.{consolidation, consolidation-numbers, consolidation-of}
-use Rattle.file_format.specs.Books.{books, BooksParts, books-parts, books-of, list-of, books-format}
+use Rattle.file_format.specs.Books.{books, BooksParts, books-parts, books-from, list-of, books-format}
 use Rattle.file_format.specs.FieldsLaws.{Lawful, number-lawful, flag-lawful, field-lawful, pair-lawful}
 use Rattle.file_format.specs.FieldsLaws.{parts-lawful, many-lawful, many-length, counted-lawful, headed-lawful}
 
@@ -29,7 +30,7 @@ numbers-lawful n = many-lawful number-lawful n
 pub settings-lawful : Lawful settings
 unfolding settings rows
 settings-lawful =
-    parts-lawful settings-numbers settings-of (numbers-lawful 19) (λ S. refl) (numbers-read 19)
+    parts-lawful settings-numbers settings-from (numbers-lawful 19) (λ S. refl) (numbers-read 19)
 
 validator-there : (p : ValidatorParts) → (field 48 ⊗ field 32 ⊗ flag ⊗ many number 6) .domain p ≡ true
     → validator-parts (validator-of p) ≡ p
@@ -68,7 +69,7 @@ list-lawful f = counted-lawful (2 ^ 28) (omega arith) f
 abbrev lists-format : Format BooksParts
 lists-format = many number 9 ⊗ list-of validator ⊗ list-of deposit ⊗ list-of partial ⊗ list-of consolidation
 
-books-there : (p : BooksParts) → lists-format .domain p ≡ true → books-parts (books-of p) ≡ p
+books-there : (p : BooksParts) → lists-format .domain p ≡ true → books-parts (books-from p) ≡ p
 unfolding rows
 books-there p e =
     let s = both (many number 9 .domain (p .0)) _ e in
@@ -77,7 +78,7 @@ books-there p e =
 pub books-lawful : Lawful books
 unfolding books
 books-lawful =
-    parts-lawful books-parts books-of
+    parts-lawful books-parts books-from
     (pair-lawful (numbers-lawful 9)
     (pair-lawful (list-lawful validator-lawful)
     (pair-lawful (list-lawful deposit-lawful)

@@ -5,9 +5,10 @@ use mathlib.Core.List.{List}
 use Prim.Native.Nat.{ℕ, _+_, _*_, _^_}
 use lib.ListN.{getD, drop}
 use Rattle.rules.specs.Types.{Settings, Books}
+use Rattle.rules.specs.Profiles.{settings-from}
 use Rattle.file_format.specs.Words.{payload, is-word}
 use Rattle.file_format.specs.Fields.{Format, number, many}
-use Rattle.file_format.specs.Books.{settings-of, books-of, validator, deposit, partial, consolidation}
+use Rattle.file_format.specs.Books.{books-from, validator, deposit, partial, consolidation}
 use Rattle.tables.specs.Rows.{rows}
 
 -- the number at word k
@@ -47,11 +48,11 @@ listed-ok F p ws = is-word 2 (2 ^ 28) (getD ws p 0) && many F (count-at ws p) .o
 -- ---- settings and books by places
 
 abbrev pub settings-at : List ℕ → Settings
-settings-at ws = settings-of (rows 19 (λ k. number-at ws (1 + k * 3)))
+settings-at ws = settings-from (rows 19 (λ k. number-at ws (1 + k * 3)))
 
 abbrev pub books-at : List ℕ → Books
 books-at ws =
-    books-of (
+    books-from (
       rows 9 (λ k. number-at ws (58 + k * 3)),
       (
         listed validator 46 85 ws,

@@ -10,10 +10,11 @@ use lib.Seq.{drop-drop, getD-drop, take-suc}
 use lib.Dec.{eqb}
 use Rattle.lists.specs.Base.{if_then_else_, total}
 use Rattle.lists.specs.Laws.{both, total-append}
+use Rattle.rules.specs.Profiles.{settings-from}
 use Rattle.file_format.specs.Words.{word, payload, is-word, wrapping-sum, words}
 use Rattle.file_format.specs.Fields.{Format, number, flag, field, field-value, first, second, third, many}
-use Rattle.file_format.specs.Books.{settings, settings-of, validator, validator-of, deposit, partial}
-use Rattle.file_format.specs.Books.{consolidation, list-of, books, books-of, books-format}
+use Rattle.file_format.specs.Books.{settings, validator, validator-of, deposit, partial}
+use Rattle.file_format.specs.Books.{consolidation, list-of, books, books-from, books-format}
 use Rattle.file_format.specs.Places.{number-at, count-at, deposits-place, partials-place, consolidations-place}
 use Rattle.file_format.specs.Places.{end-place, listed-ok, settings-at, books-at}
 use Rattle.tables.specs.Rows.{rows}
@@ -164,7 +165,7 @@ module _ (ws : List ℕ) where
       let c =
       ap (list-of consolidation .value) consolidations-behind
       ∙ list-value consolidation 6 fixed-consolidation (consolidations-place ws) ws in
-      λ j. (settings-of (s j), books-of (x j, (v j, (d j, (p j, c j)))))
+      λ j. (settings-from (s j), books-from (x j, (v j, (d j, (p j, c j)))))
 
   pub books-ok : books-format .ok ws
       ≡ eqb (getD ws 0 0) (word 1 1)

@@ -5,7 +5,7 @@ use mathlib.Core.List.{List, [], _∷_, _++_}
 use Prim.Native.Nat.{ℕ, zero, suc, _+_, _-_, _*_}
 use lib.ListN.{length, set, take, replicate}
 use Rattle.lists.specs.Base.{every}
-use Rattle.rules.specs.Examples.{G, near-mainnet, validator, deposit, books}
+use Rattle.rules.specs.Examples.{G, with-limits, validator, deposit, books}
 use Rattle.file_format.specs.Words.{bytes, with-end}
 use Rattle.file_format.specs.Books.{books-format}
 use Rattle.file_format.specs.Calls.{calls-format}
@@ -67,9 +67,9 @@ pub books-cut : all-refused books-ok
 unfolding opened
 books-cut = refl
 
--- one deposit where the settings allow none: such books are refused too, but not here
-pub over-limit : books-ok (write-books (near-mainnet (128 * G) 16 256 0 256 256)
-    (books (validator 1 1 (32 * G) (40 * G) ∷ []) (deposit 0 G ∷ []) [] [])) ≡ true
+-- two deposits where the settings allow one: such books are answered 2, and their file is not broken
+pub over-limit : books-ok (write-books (with-limits 256 1 256 256)
+    (books (validator 1 1 (32 * G) (40 * G) ∷ []) (deposit 0 G ∷ deposit 0 G ∷ []) [] [])) ≡ true
 unfolding opened
 over-limit = refl
 

@@ -11,8 +11,9 @@ use lib.ListN.{drop}
 use lib.Seq.{drop-drop}
 use Rattle.tables.specs.Rows.{rows}
 use Rattle.rules.specs.Types as rule
+use Rattle.rules.specs.Profiles.{settings-from}
 use Rattle.file_format.specs.Fields.{number, flag, field, many}
-use Rattle.file_format.specs.Books.{settings-of, validator, deposit, deposit-of, partial, partial-of}
+use Rattle.file_format.specs.Books.{validator, deposit, deposit-of, partial, partial-of}
 use Rattle.file_format.specs.Books.{consolidation, consolidation-of}
 use Rattle.file_format.specs.Places.{number-at, settings-at, count-at}
 use Rattle.file_format.specs.Places.{deposits-place, partials-place, consolidations-place}
@@ -38,9 +39,9 @@ abbrev pub head-numbers : List ℕ → List ℕ
 head-numbers ws = rows 28 (λ i. number-at ws (1 + i * 3))
 
 pub settings-read : (ws row : List ℕ) → row ≡ head-numbers ws → {S : rule.Settings}
-    → S ≡ settings-of row → S ≡ settings-at ws
+    → S ≡ settings-from row → S ≡ settings-at ws
 unfolding rows
-settings-read ws row e f = f ∙ ap settings-of e
+settings-read ws row e f = f ∙ ap settings-from e
 
 pub scalars-read : (ws row : List ℕ) (v d p c x y z : ℕ) → row ≡ head-numbers ws → v ≡ count-at ws 85
     → x ≡ deposits-place ws → d ≡ count-at ws x → y ≡ partials-place ws → p ≡ count-at ws y

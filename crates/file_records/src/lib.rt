@@ -19,10 +19,10 @@ ghost use mathlib.Core.Bool.{true};
 ghost use Prim.Native.Nat.{_+_, _*_, _≤_, _^_};
 ghost use lib.ListN.{drop};
 ghost use Rattle.tables.specs.Rows.{rows};
+ghost use Rattle.rules.specs.Profiles.{settings-from};
 ghost use Rattle.primitives.specs.Settings.{settings-of};
 ghost use Rattle.records.specs.Plain.{plain-deposit, plain-partial, plain-consolidation};
 ghost use Rattle.file_format.specs.Words.{words};
-ghost use Rattle.file_format.specs.Books as file;
 ghost use Rattle.file_format.specs.Books.{deposit, partial, consolidation};
 ghost use Rattle.file_format.specs.Places.{number-at, settings-at};
 ghost use Rattle.file_format.specs.PlacesLaws.{Good};
@@ -45,7 +45,7 @@ fn head_numbers(file: &[u8]) -> [u64; 28]
 }
 
 fn settings_from(row: [u64; 28]) -> Settings
-    ensures { λ r. ⌜ settings-of r ≡ file.settings-of row ⌝ }
+    ensures { λ r. ⌜ settings-of r ≡ settings-from row ⌝ }
 {
     Settings {
         min_activation_balance: Gwei(row[0]),

@@ -7,6 +7,7 @@ use native.Mathlib.Omega.{arith}
 use lib.ListN.{getD}
 use Rattle.lists.specs.Base.{all, every}
 use Rattle.lists.specs.Laws.{every-at}
+use Rattle.rules.specs.Profiles.{mainnet-row}
 use Rattle.rules.specs.Acceptance.{sound-settings}
 use Rattle.rule_laws.specs.Accepted.{Limit, SoundSettings, settings-sound, settings-sound-so}
 use Rattle.primitives.specs.declared.Settings.{Settings}
@@ -36,28 +37,9 @@ row-settings row registry deposits partials consolidations = record {
   «pending_consolidations_limit» = consolidations;
 }
 
-abbrev pub mainnet : List ℕ
-mainnet =
-    32000000000
-    ∷ 2048000000000
-    ∷ 1000000000
-    ∷ 128000000000
-    ∷ 256000000000
-    ∷ 65536
-    ∷ 256
-    ∷ 256
-    ∷ 4
-    ∷ 4
-    ∷ 1
-    ∷ 5
-    ∷ 8
-    ∷ 16
-    ∷ 16384
-    ∷ []
-
 -- every row that the library knows
 abbrev pub profiles : List (List ℕ)
-profiles = mainnet ∷ []
+profiles = mainnet-row ∷ []
 
 -- the test of a row: its settings are sound with the least limits
 abbrev pub row-sound : List ℕ → Bool
@@ -108,5 +90,5 @@ row-settings-sound row e registry deposits partials consolidations l₁ l₂ l�
 
 pub mainnet-sound : (registry deposits partials consolidations : ℕ)
     → Limit registry → Limit deposits → Limit partials → Limit consolidations
-    → sound-settings (settings-of (row-settings mainnet registry deposits partials consolidations)) ≡ true
-mainnet-sound = row-settings-sound mainnet (every-at row-sound 0 profiles mainnet (omega arith) profiles-sound)
+    → sound-settings (settings-of (row-settings mainnet-row registry deposits partials consolidations)) ≡ true
+mainnet-sound = row-settings-sound mainnet-row (every-at row-sound 0 profiles mainnet-row (omega arith) profiles-sound)

@@ -3,7 +3,8 @@ pub mod answers; // the numbers of the answers
 
 ghost use mathlib.Core.Path.{_≡_};
 ghost use Prim.Native.Nat.{min, max};
-ghost use Rattle.primitives.specs.Profiles.{row-settings, mainnet};
+ghost use Rattle.rules.specs.Profiles.{mainnet-row};
+ghost use Rattle.primitives.specs.Profiles.{row-settings};
 ghost use Rattle.primitives.specs.Scalars.{with-epoch, with-next-withdrawal, with-receipts-start};
 ghost use Rattle.primitives.specs.Scalars.{with-deposit-balance-to-consume};
 ghost use Rattle.primitives.specs.Scalars.{with-exit-churn, with-consolidation-churn};
@@ -148,7 +149,7 @@ impl Settings {
         partials: usize,
         consolidations: usize,
     ) -> Settings
-        ensures { λ r. ⌜ r ≡ row-settings mainnet registry deposits partials consolidations ⌝ }
+        ensures { λ r. ⌜ r ≡ row-settings mainnet-row registry deposits partials consolidations ⌝ }
     {
         Settings::from_row(MAINNET, registry, deposits, partials, consolidations)
     }

@@ -1,10 +1,11 @@
 -- Settings, books and calls that the examples below are made of.
-use mathlib.Core.List.{List, _∷_, _++_}
-use Prim.Native.Nat.{ℕ, _*_, _^_}
-use lib.ListN.{replicate}
+use mathlib.Core.List.{List, [], _∷_, _++_}
+use Prim.Native.Nat.{ℕ, _^_}
+use lib.ListN.{replicate, set}
 use Rattle.lists.specs.Base.{if_then_else_, all}
 use Rattle.rules.specs.Types.{FAR, Settings, Validator, Withdrawal, Books}
 use Rattle.rules.specs.Types.{PendingBalanceDeposit, PendingPartialWithdrawal, PendingConsolidation}
+use Rattle.rules.specs.Profiles.{settings-from, mainnet-row}
 use Rattle.rules.specs.Helpers as helpers
 use Rattle.rules.specs.EpochProcessing as steps
 use Rattle.rules.specs.BlockProcessing as block
@@ -18,33 +19,25 @@ G = 10 ^ 9
 
 -- ---- settings
 
--- the mainnet row with another minimum churn and payload, and the four limits
-abbrev pub near-mainnet : (min-churn payload registry deposits partials consolidations : ℕ) → Settings
-near-mainnet min-churn payload registry deposits partials consolidations = record {
-  min-activation-balance = 32 * G;
-  max-effective-balance-electra = 2048 * G;
-  effective-balance-increment = G;
-  min-per-epoch-churn-limit-electra = min-churn;
-  max-per-epoch-activation-exit-churn-limit = 256 * G;
-  churn-limit-quotient = 65536;
-  shard-committee-period = 256;
-  min-validator-withdrawability-delay = 256;
-  max-seed-lookahead = 4;
-  hysteresis-quotient = 4;
-  hysteresis-downward-multiplier = 1;
-  hysteresis-upward-multiplier = 5;
-  max-pending-partials-per-withdrawals-sweep = 8;
-  max-withdrawals-per-payload = payload;
-  max-validators-per-withdrawals-sweep = 16384;
-  validator-registry-limit = registry;
-  pending-balance-deposits-limit = deposits;
-  pending-partial-withdrawals-limit = partials;
-  pending-consolidations-limit = consolidations;
-}
+-- the mainnet row and limits of 256, but for some numbers, each given behind its place
+abbrev numbers-but : List (ℕ × ℕ) → List ℕ
+numbers-but [] = mainnet-row ++ replicate 4 256
+numbers-but (c ∷ cs) = set (numbers-but cs) (c .0) (c .1)
 
--- the mainnet row
+abbrev pub mainnet-but : List (ℕ × ℕ) → Settings
+mainnet-but changes = settings-from (numbers-but changes)
+
 abbrev pub mainnet : Settings
-mainnet = near-mainnet (128 * G) 16 256 256 256 256
+mainnet = mainnet-but []
+
+-- with another minimum churn
+abbrev pub with-min-churn : ℕ → Settings
+with-min-churn n = mainnet-but ((3, n) ∷ [])
+
+-- with other limits
+abbrev pub with-limits : (registry deposits partials consolidations : ℕ) → Settings
+with-limits registry deposits partials consolidations =
+    mainnet-but ((15, registry) ∷ (16, deposits) ∷ (17, partials) ∷ (18, consolidations) ∷ [])
 
 -- ---- books
 
@@ -71,11 +64,11 @@ validator n prefix effective-balance balance = record {
   balance = balance;
 }
 
-abbrev pub slashed : Validator → Validator
-slashed v = record {
+abbrev pub with-slashed : ℕ → Validator → Validator
+with-slashed flag v = record {
   public-key = v .public-key;
   withdrawal-credentials = v .withdrawal-credentials;
-  slashed = 1;
+  slashed = flag;
   effective-balance = v .effective-balance;
   activation-eligibility-epoch = v .activation-eligibility-epoch;
   activation-epoch = v .activation-epoch;

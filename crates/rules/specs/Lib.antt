@@ -1,5 +1,6 @@
 pub mod Types
 pub mod Update
+pub mod Profiles
 pub mod Helpers
 pub mod EpochProcessing
 pub mod BlockProcessing

@@ -46,40 +46,32 @@ push-requires c κs =
       (omega (arith, i, r .identities), omega (arith, i, r .validators)),
     )
 
-add-i : tie.Need-add-i Inv-loop μ-loop
-add-i c =
-    let l = c .before .before .before .before .before .before in
-    let s = l .before .before .before .before .before .before in
-    omega (arith, l .loop .inv .inside, s .pre .validators, s .good)
-
-rem-i : tie.Need-rem-i Inv-loop μ-loop
-rem-i c =
-    let l = c .before .before .before .before .before .before in
-    omega (arith, l .loop .inv .inside)
+index-after-requires : tie.Need-index-after-requires Inv-loop μ-loop
+index-after-requires c κs = c .before .before .before .before .before .before .loop .inv .inside
 
 add-k : tie.Need-add-k Inv-loop μ-loop
-add-k c = omega (arith, c .before .before .before .before .before .loop-test .taken)
+add-k c = omega (arith, c .before .before .before .before .before .before .loop-test .taken)
 
 loop-less : tie.Need-loop-less Inv-loop μ-loop
-loop-less c = omega (arith, c .before .before .before .before .before .loop-test .taken)
+loop-less c = omega (arith, c .before .before .before .before .before .before .loop-test .taken)
 
 loop-again : tie.Need-loop-again Inv-loop μ-loop
 loop-again c =
-    let q = c .before .before .before .before .before .before in
+    let q = c .before .before .before .before .before .before .before in
     let a = q .before .before .before .before .before .before .args in
     let S = settings-of (a .settings) in
     let i = q .loop .i in
     let v = validator-at (a .identities .now) (a .validators .now) i in
     let epoch = a .scalars .epoch .0 in
     let first = a .scalars .«next_withdrawal_index» .0 in
-    let amount = c .before .before .sweep-amount .ensures in
+    let amount = c .before .before .before .sweep-amount .ensures in
     let more = sweeping-more (a .settings) (a .scalars) (a .identities .now) (a .validators .now) (a .listed)
-    (q .loop .inv) (c .before .before .before .before .before .loop-test .taken)
-    (c .before .before .before .if1 .left) in
+    (q .loop .inv) (c .before .before .before .before .before .before .loop-test .taken)
+    (c .before .before .before .before .if1 .left) (c .index-after .ensures) in
     ⊎-elim
     (λ w. more (validator-listed S v epoch first i (q .loop .e) amount (w .0 .taken) (w .2 ∙ w .1 .ensures)))
     (λ w. more (w .1 ∙ validator-passed S v epoch first i (q .loop .e) amount (w .0 .left)))
-    (c .if2 .came)
+    (c .before .if2 .came)
 
 returns-2 : tie.Need-returns-2 Inv-loop μ-loop
 returns-2 c =
@@ -98,8 +90,7 @@ sweep-withdrawals-spec =
     returns
     sweep-amount-requires
     push-requires
-    add-i
-    rem-i
+    index-after-requires
     add-k
     loop-less
     loop-again
