@@ -1,6 +1,7 @@
 #!/usr/bin/env bash
 # Makes the static library and the program `close`, runs the example from C and from Rust, compares the answers with
-# example.txt and the closing books with those of `close`, and runs the Rust wrapper's tests. No network.
+# example.txt and the closing books with those of `close`, and runs the tests in C and those of the Rust wrapper. No
+# network.
 set -euo pipefail
 cd "$(dirname "$0")"
 here=$PWD
@@ -11,12 +12,14 @@ trap 'rm -rf "$work"' EXIT
 cp ../example/opening.w ../example/calls.w "$work"
 (cd "$work" && "$here/../target/bin/close")
 
-"${CC:-cc}" -std=c11 -Wall -Wextra -Werror -O2 c/example.c ../target/staticlib/libsolarbasil.a -o "$work/example"
+for name in example calls lengths; do
+    "${CC:-cc}" -std=c11 -Wall -Wextra -Werror -O2 "c/$name.c" ../target/staticlib/libsolarbasil.a -o "$work/$name"
+done
 "$work/example" ../example/opening.w ../example/calls.w "$work/from_c.w" | diff - example.txt
 cmp "$work/from_c.w" "$work/closing.w"
-"${CC:-cc}" -std=c11 -Wall -Wextra -Werror -O2 c/lengths.c ../target/staticlib/libsolarbasil.a -o "$work/lengths"
+"$work/calls"
 "$work/lengths"
-echo "C: example, closing books and lengths as expected"
+echo "C: example, closing books, calls and lengths as expected"
 
 cd "$here/rust"
 export CARGO_TARGET_DIR=$here/../target/interface

@@ -25,16 +25,18 @@
  *                   validator i begins at byte 48 i, its credentials at byte 48 F + 32 i.
  *   validators      7 numbers a validator, in seven columns of F numbers (F is the length divided by 7): slashed (0 or
  *                   1), effective balance, activation eligibility epoch, activation epoch, exit epoch, withdrawable
- *                   epoch, balance. Number k of validator i, from 0 on, stands at k F + i. A buffer of another length
- *                   has its columns elsewhere: books are not moved by lending more of it.
+ *                   epoch, balance. Number k of validator i, from 0 on, stands at k F + i.
  *   deposits        2 numbers an entry: validator, amount
  *   partials        3 numbers an entry: validator, amount, withdrawable epoch
  *   consolidations  2 numbers an entry: source, target
  *
- * A table that has room for fewer records than its limit in the settings is answered 3. What stands in a table past the
- * records that the scalars count stays as it is.
+ * Where the columns of identities and validators stand depends on the length: lend the same length in every call.
  *
- * Answers. 0 is done. Every other number is a refusal, and leaves every buffer as it was:
+ * A table that has room for fewer records than its limit in the settings is answered 3. Past the records that the
+ * scalars count after a call, each table holds what it held before that call. This is true of each call of a calls
+ * file, and not of the file as a whole: an entry that one call queued and a later one took out may still stand there.
+ *
+ * Answers. 0 is done. Every other number is a refusal, and leaves all that was lent as it was:
  *    1 unsound settings           2 unsound books             3 buffer shorter than its limit, or of a wrong length
  *   10 no such validator         11 not active               12 exit begun             13 stated epoch ahead
  *   14 active too short          15 partials waiting         16 bad signature
