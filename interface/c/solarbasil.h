@@ -44,9 +44,9 @@
  *   23 no 01 or 02 credential    24 addresses differ         30 withdrawals not the expected list
  *   40 result's registry or deposit queue over its limit     41 result's sums over 2^62
  *   42 result's epoch or withdrawal index over 2^62          50 epoch assignment with churn 0
- *   60 no books file, or no calls file                       61 buffer shorter than what is to be written
- * The first that applies is given, in the order 1, 3, 2, the call's own tests, 40, 41, 42. Every call on books can be
- * answered 1, 2 and 3; below stand the others that each call can be answered.
+ *   60 broken books or calls file                            61 buffer shorter than what is to be written
+ * The first that applies is given. Every call on books is tested for 1, 3 and 2 first, in this order. Below stand the
+ * other answers that each call can give, in the order in which they are tested.
  *
  * Amounts are in Gwei.
  */
@@ -103,7 +103,7 @@ uint8_t solarbasil_process_deposit_receipt(
     const uint8_t *withdrawal_credentials, size_t withdrawal_credentials_len, uint64_t amount, uint64_t index,
     bool valid);
 
-/* A voluntary exit. `valid` says whether the signature is good. 10 to 16, 42. */
+/* A voluntary exit. `valid` says whether the signature is good. 10, 11, 12, 13, 14, 15, 16, 42. */
 uint8_t solarbasil_process_voluntary_exit(
     const uint64_t *settings, size_t settings_len, uint64_t *scalars, size_t scalars_len,
     const uint8_t *identities, size_t identities_len, uint64_t *validators, size_t validators_len,
@@ -120,8 +120,8 @@ uint8_t solarbasil_process_execution_layer_withdrawal_request(
     const uint8_t *source_address, size_t source_address_len, const uint8_t *public_key, size_t public_key_len,
     uint64_t amount);
 
-/* A consolidation of one validator into another. `valid` says whether the signature is good. 10 to 13, 16, 20 to 24,
- * 42. */
+/* A consolidation of one validator into another. `valid` says whether the signature is good. 20, 21, 22, 10, 11, 12,
+ * 13, 23, 24, 16, 42; of these 10, 11, 12 and 23 can be for the source or for the target. */
 uint8_t solarbasil_process_consolidation(
     const uint64_t *settings, size_t settings_len, uint64_t *scalars, size_t scalars_len,
     const uint8_t *identities, size_t identities_len, uint64_t *validators, size_t validators_len,
@@ -186,7 +186,7 @@ uint8_t solarbasil_get_expected_withdrawals(
 
 /* Opens a books file (docs/FORMAT.md) into the settings, the scalars and the tables. `settings` has room for 19
  * numbers, `scalars` for 13, and each table for as many records as its limit in the file, else the answer is 3. What
- * stands past what was read stays as it is. 60 comes first here, then 1, 3, 2. */
+ * stands past what was read stays as it is. Here the order is 60, 1, 3, 2. */
 uint8_t solarbasil_read_books(
     uint64_t *settings, size_t settings_len, uint64_t *scalars, size_t scalars_len,
     uint8_t *identities, size_t identities_len, uint64_t *validators, size_t validators_len,
