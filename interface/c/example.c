@@ -19,11 +19,11 @@ static uint64_t deposits[2 * LIMIT];
 static uint64_t partials[3 * LIMIT];
 static uint64_t consolidations[2 * LIMIT];
 
-/* One byte more than a file has, so that a longer one is read as no file, 60. */
+/* One byte more than a file has, so that a longer one is answered 60. */
 static uint8_t file[FILE_BYTES + 1];
 static uint64_t results[3 * SOLARBASIL_CALLS];
 
-/* The bytes of a file, as many as have room; none of one that cannot be opened, which is then no file either. */
+/* The bytes of a file, as many as have room; none where it cannot be opened, which is answered 60 too. */
 static size_t read_file(const char *name) {
     FILE *stream = fopen(name, "rb");
     if (stream == NULL) {

@@ -1,12 +1,16 @@
 /* Solarbasil: proved balance books for Ethereum validators (Electra), as a static library for x86-64 Linux.
  *
- * `rt staticlib solarbasil` writes target/staticlib/libsolarbasil.a. It needs memset and memcpy of the C library. The
- * turn, the consolidation step and a calls file take some 600 kilobytes of stack.
+ * `rt staticlib solarbasil` writes target/staticlib/libsolarbasil.a. It needs memset and memcpy of the C library.
+ *
+ * Stack. The turn, the consolidation step and a calls file take 530,000 bytes, every other call less than 8,000. A
+ * thread with a stack of 1 MiB has enough for all of them.
  *
  * Buffers. Each is a pointer and a length, which counts items and not bytes. A function may be lent any numbers and any
  * lengths: what it answers and leaves is proved for all of them. The caller owes what C cannot check: each pointer is
  * aligned, not null (not even for a length of 0) and points to as many items as its length says; during the call
- * nothing else writes them; and no buffer that may change overlaps another. A buffer that is const is only read.
+ * nothing else writes them, nor reads those that may change; and no buffer that may change overlaps another. The same
+ * is owed for the pointers without a length, to one number each: `total`, `count`, `partial_count`, `written`,
+ * `left_after`, `epoch`. What is const is only read.
  *
  *   settings        19 numbers: min_activation_balance, max_effective_balance_electra, effective_balance_increment,
  *                   min_per_epoch_churn_limit_electra, max_per_epoch_activation_exit_churn_limit, churn_limit_quotient,
@@ -93,8 +97,13 @@ uint8_t solarbasil_penalty(
     const uint64_t *deposits, size_t deposits_len, const uint64_t *partials, size_t partials_len,
     const uint64_t *consolidations, size_t consolidations_len, uint64_t validator, uint64_t amount);
 
-/* A deposit receipt. The key has 48 bytes and the credentials 32: another length is answered 3. `valid` says whether
- * the signature is good: where it is not, an unknown key is not added, and the answer is 0. 40, 41. */
+/* A deposit receipt. The key has 48 bytes and the credentials 32: another length is answered 3. `index` is the number
+ * of the receipt: where deposit_receipts_start_index is SOLARBASIL_FAR, it is stored there. `valid` says whether the
+ * signature is good.
+ * An unknown key is added as a validator and its amount queued as a deposit; with a bad signature neither is done, and
+ * the answer is 0. A known key's amount is queued with a good and with a bad signature. If the signature is good, the
+ * credentials begin with 02 and those of the validator with 01, the validator switches: its credentials then begin with
+ * 02, and its balance above min_activation_balance is queued too, behind the amount. 40, 41. */
 uint8_t solarbasil_process_deposit_receipt(
     const uint64_t *settings, size_t settings_len, uint64_t *scalars, size_t scalars_len,
     uint8_t *identities, size_t identities_len, uint64_t *validators, size_t validators_len,
@@ -194,7 +203,7 @@ uint8_t solarbasil_read_books(
     uint64_t *consolidations, size_t consolidations_len, const uint8_t *file, size_t file_len);
 
 /* Writes the books as a file to the start of `out`, and its length in bytes to `written`: SOLARBASIL_FILE_BYTES of the
- * four counts. What stands past it stays as it is. 61 where `out` is shorter than the file. Alters no books. */
+ * four counts. What stands past it stays as it is. Alters no books. 61 where `out` is shorter than the file. */
 uint8_t solarbasil_write_books(
     const uint64_t *settings, size_t settings_len, const uint64_t *scalars, size_t scalars_len,
     const uint8_t *identities, size_t identities_len, const uint64_t *validators, size_t validators_len,
