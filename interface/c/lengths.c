@@ -1,4 +1,5 @@
-/* Slices of every length: what is answered, and that a refusal leaves all as it was. */
+/* Buffers that are long enough, and some that are one item too short or too long: what is answered, and that a refusal
+ * leaves all as it was. */
 #include <stdio.h>
 #include <string.h>
 
@@ -37,6 +38,16 @@ static void open_books(void) {
     b.validators[5 * LIMIT] = SOLARBASIL_FAR;
     b.validators[6 * LIMIT] = 40 * G;
     opened = b;
+}
+
+/* Puts other numbers and bytes in the place of all that a books file holds. */
+static void spoil_books(void) {
+    memset(b.scalars, 7, SOLARBASIL_SCALARS * sizeof b.scalars[0]);
+    memset(b.identities, 7, 48);
+    memset(b.identities + 48 * LIMIT, 7, 32);
+    for (size_t column = 0; column < 7; column++) {
+        b.validators[column * LIMIT] = 7;
+    }
 }
 
 static void expect(const char *what, uint8_t answer, uint8_t wanted) {
@@ -150,8 +161,7 @@ static void files(void) {
     expect("a byte past the file", read_books(19, 12, 3 * LIMIT, FILE_BYTES + 1), 60);
     expect("no file", read_books(19, 13, 3 * LIMIT, 0), 60);
     expect_that("a refused reader stored settings", chain[0] == chain[SOLARBASIL_SETTINGS]);
-    b.scalars[0] = 0;
-    b.validators[6] = 0;
+    spoil_books();
     uint8_t answer = read_books(20, 14, 3 * LIMIT, FILE_BYTES);
     expect_that("the books that were read", memcmp(&b, &opened, sizeof b) == 0);
     expect("read", answer, 0);
