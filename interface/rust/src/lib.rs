@@ -113,6 +113,28 @@ impl Settings {
         }
     }
 
+    /// The settings with these nineteen numbers, in the order of the library.
+    fn of(n: &[u64; 19]) -> Settings {
+        Settings {
+            min_activation_balance: n[0],
+            max_effective_balance_electra: n[1],
+            effective_balance_increment: n[2],
+            min_per_epoch_churn_limit_electra: n[3],
+            max_per_epoch_activation_exit_churn_limit: n[4],
+            churn_limit_quotient: n[5],
+            shard_committee_period: n[6],
+            min_validator_withdrawability_delay: n[7],
+            max_seed_lookahead: n[8],
+            hysteresis_quotient: n[9],
+            hysteresis_downward_multiplier: n[10],
+            hysteresis_upward_multiplier: n[11],
+            max_pending_partials_per_withdrawals_sweep: n[12],
+            max_withdrawals_per_payload: n[13],
+            max_validators_per_withdrawals_sweep: n[14],
+            limits: Limits { registry: n[15], deposits: n[16], partials: n[17], consolidations: n[18] },
+        }
+    }
+
     /// The nineteen numbers, in the order of the library.
     fn numbers(&self) -> [u64; 19] {
         [
@@ -201,11 +223,11 @@ pub struct ExpectedWithdrawals {
 }
 
 /// A call of a calls file: its code (1 reward, 2 penalty, 3 receipt, 4 exit, 5 request, 6 consolidation, 7 turn,
-/// 8 withdrawals), its answer, and balances plus waiting deposits after it.
+/// 8 withdrawals), its answer (0, or the number of a `Refused`), and balances plus waiting deposits after it.
 #[derive(Clone, Copy, Debug, PartialEq, Eq)]
 pub struct Line {
     pub code: u64,
-    pub answer: u64,
+    pub answer: u8,
     pub total: u64,
 }
 
@@ -219,6 +241,14 @@ pub struct Assignment {
 /// There is no room for another record.
 #[derive(Clone, Copy, Debug, PartialEq, Eq)]
 pub struct Full;
+
+impl fmt::Display for Full {
+    fn fmt(&self, f: &mut fmt::Formatter<'_>) -> fmt::Result {
+        f.write_str("no room for another record")
+    }
+}
+
+impl std::error::Error for Full {}
 
 // Where the scalars hold how many records each table has.
 const VALIDATORS: usize = 9;
@@ -296,8 +326,6 @@ macro_rules! ask {
 impl Books {
     /// Books without validators, with room for as many records as the limits say. Settings are judged by each call.
     pub fn new(settings: &Settings, scalars: &Scalars) -> Books {
-        let room = |limit: u64| limit.min(MOST) as usize;
-        let Limits { registry, deposits, partials, consolidations } = settings.limits;
         Books {
             settings: settings.numbers(),
             scalars: [
@@ -315,7 +343,7 @@ impl Books {
                 0,
                 0,
             ],
-            ..Books::with_room([registry, deposits, partials, consolidations].map(room))
+            ..Books::with_room(settings.limits)
         }
     }
 
@@ -323,24 +351,26 @@ impl Books {
 
     /// The books of a books file.
     pub fn open(file: &[u8]) -> Result<Books, Refused> {
-        let mut most = Books::with_room([MOST as usize; 4]);
+        let mut most =
+            Books::with_room(Limits { registry: MOST, deposits: MOST, partials: MOST, consolidations: MOST });
         most.read(file)?;
         // where a table's columns stand depends on its length, so that a shorter buffer is read anew
-        let mut b = Books::with_room(most.limits());
+        let mut b = Books::with_room(most.settings().limits);
         b.read(file)?;
         Ok(b)
     }
 
-    /// Buffers with room for so many validators, deposits, partials and consolidations, all 0.
-    fn with_room([registry, deposits, partials, consolidations]: [usize; 4]) -> Books {
+    /// Buffers with room for so many records, all 0; a limit above `MOST` is unsound, and gets room for `MOST`.
+    fn with_room(limits: Limits) -> Books {
+        let room = |limit: u64| limit.min(MOST) as usize;
         Books {
             settings: [0; 19],
             scalars: [0; 13],
-            identities: vec![0; 80 * registry],
-            validators: vec![0; 7 * registry],
-            deposits: vec![0; 2 * deposits],
-            partials: vec![0; 3 * partials],
-            consolidations: vec![0; 2 * consolidations],
+            identities: vec![0; 80 * room(limits.registry)],
+            validators: vec![0; 7 * room(limits.registry)],
+            deposits: vec![0; 2 * room(limits.deposits)],
+            partials: vec![0; 3 * room(limits.partials)],
+            consolidations: vec![0; 2 * room(limits.consolidations)],
         }
     }
 
@@ -400,15 +430,15 @@ impl Books {
             results.len(),
             &mut count,
         )?;
-        let line = |w: &[u64]| Line { code: w[0], answer: w[1], total: w[2] };
+        // an answer is at most 61
+        let line = |w: &[u64]| Line { code: w[0], answer: w[1] as u8, total: w[2] };
         Ok(results.chunks_exact(3).take(count as usize).map(line).collect())
     }
 
     // ---- the records
 
-    /// How many records the settings ask room for: registry, deposits, partials, consolidations.
-    fn limits(&self) -> [usize; 4] {
-        [15, 16, 17, 18].map(|place| self.settings[place].min(MOST) as usize)
+    pub fn settings(&self) -> Settings {
+        Settings::of(&self.settings)
     }
 
     pub fn scalars(&self) -> Scalars {
