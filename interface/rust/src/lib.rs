@@ -1,7 +1,12 @@
 //! Proved balance books for Ethereum validators: a safe wrapper over the static library of Solarbasil.
 //!
 //! `Books` owns settings, scalars and tables, and lends them to the library for each call. What each call answers and
-//! leaves is proved in the library; nothing here computes a balance. Amounts are in Gwei.
+//! leaves is proved in the library; nothing here computes a balance. `interface/c/solarbasil.h` says what each call
+//! does, and with which numbers it can be refused. Amounts are in Gwei.
+//!
+//! `turn`, `process_pending_consolidations` and `carry_out` take 530,000 bytes of stack, every other call less than
+//! 16 KiB. A thread with a stack of 1 MiB has enough for all of them; Rust's own threads have 2 MiB. A stack that is
+//! too small ends the program, as in any Rust function.
 
 mod ffi;
 
@@ -43,7 +48,7 @@ impl fmt::Display for Refused {
             41 => "result's sums over 2^62",
             42 => "result's epoch or withdrawal index over 2^62",
             50 => "epoch assignment with churn 0",
-            60 => "no books file, or no calls file",
+            60 => "broken books or calls file",
             61 => "buffer shorter than what is to be written",
             _ => "unknown cause",
         };
@@ -349,7 +354,8 @@ impl Books {
 
     // ---- the two files
 
-    /// The books of a books file.
+    /// The books of a books file, in buffers with room for its limits. It reads the file twice: first into buffers with
+    /// room for the most records, to find the limits. `read` reads it once, into buffers that are there.
     pub fn open(file: &[u8]) -> Result<Books, Refused> {
         let mut most =
             Books::with_room(Limits { registry: MOST, deposits: MOST, partials: MOST, consolidations: MOST });
@@ -547,7 +553,8 @@ impl Books {
         call!(solarbasil_penalty, self, validator, amount)
     }
 
-    /// `valid` says whether the signature is good.
+    /// `index` is the number of the receipt, kept as the receipt start where none is set. `valid` says whether the
+    /// signature is good: with a bad one an unknown key is not added, and a known key's amount is queued all the same.
     pub fn process_deposit_receipt(
         &mut self,
         public_key: &[u8; 48],
