@@ -1,4 +1,6 @@
 //! Each call once through the wrapper, with what it leaves and a refusal. The library's proofs say the rest.
+use std::{error::Error, thread};
+
 use solarbasil::{
     epoch_assignment, Assignment, Books, Full, Limits, Line, PendingBalanceDeposit, PendingConsolidation,
     PendingPartialWithdrawal, Refused, Scalars, Settings, Validator, FAR,
@@ -35,6 +37,15 @@ fn two() -> Books {
     b
 }
 
+/// Two, with an entry in each queue.
+fn with_queues() -> Books {
+    let mut b = two();
+    b.push_deposit(&PendingBalanceDeposit { index: 1, amount: G }).unwrap();
+    b.push_partial(&PendingPartialWithdrawal { index: 1, amount: 5, withdrawable_epoch: 7 }).unwrap();
+    b.push_consolidation(&PendingConsolidation { source_index: 0, target_index: 1 }).unwrap();
+    b
+}
+
 #[test]
 fn rewards_and_penalties() {
     let mut b = two();
@@ -59,6 +70,8 @@ fn settings_and_books_are_judged() {
     let mut b = books(1);
     assert_eq!(b.push_validator(&validator(1, 1, 0)), Ok(()));
     assert_eq!(b.push_validator(&validator(1, 1, 0)), Err(Full));
+    let error: Box<dyn Error> = Full.into();
+    assert_eq!(error.to_string(), "no room for another record");
 }
 
 #[test]
@@ -142,10 +155,7 @@ fn assignments() {
 
 #[test]
 fn books_files() {
-    let mut b = two();
-    b.push_deposit(&PendingBalanceDeposit { index: 1, amount: G }).unwrap();
-    b.push_partial(&PendingPartialWithdrawal { index: 1, amount: 5, withdrawable_epoch: 7 }).unwrap();
-    b.push_consolidation(&PendingConsolidation { source_index: 0, target_index: 1 }).unwrap();
+    let b = with_queues();
     let mut file = b.write().unwrap();
     assert_eq!(file.len(), 4 * (90 + 2 * 46 + 6 + 9 + 6));
     assert_eq!(Books::open(&file), Ok(b.clone()));
@@ -168,6 +178,101 @@ fn books_files() {
 }
 
 #[test]
+fn equal_books() {
+    let mut b = with_queues();
+    assert_eq!(b.turn(), Ok(()));
+    assert_eq!(b.deposits(), []);
+    // The deposit was credited; what the queue's buffer still holds of it does not count.
+    let file = b.write().unwrap();
+    assert_eq!(Books::open(&file), Ok(b.clone()));
+    // Nor does room for more records than the limits.
+    let mut roomy = books(5);
+    assert_eq!(roomy.read(&file), Ok(()));
+    assert_eq!(roomy, b);
+}
+
+#[test]
+fn unequal_settings_and_queues() {
+    assert_ne!(books(4), books(5));
+    assert_ne!(books(4), Books::new(&books(4).settings(), &Scalars::default()));
+    let deposit = |index, amount| {
+        let mut b = two();
+        b.push_deposit(&PendingBalanceDeposit { index, amount }).unwrap();
+        b
+    };
+    let partial = |index, amount, withdrawable_epoch| {
+        let mut b = two();
+        b.push_partial(&PendingPartialWithdrawal { index, amount, withdrawable_epoch }).unwrap();
+        b
+    };
+    let consolidation = |source_index, target_index| {
+        let mut b = two();
+        b.push_consolidation(&PendingConsolidation { source_index, target_index }).unwrap();
+        b
+    };
+    let all = [
+        two(),
+        deposit(0, 0),
+        deposit(0, 1),
+        deposit(1, 0),
+        partial(0, 0, 0),
+        partial(0, 0, 1),
+        partial(0, 1, 0),
+        partial(1, 0, 0),
+        consolidation(0, 0),
+        consolidation(0, 1),
+        consolidation(1, 0),
+    ];
+    for (i, b) in all.iter().enumerate() {
+        assert_eq!(all.iter().position(|other| other == b), Some(i));
+    }
+}
+
+#[test]
+fn unequal_validators() {
+    let with = |change: fn(&mut Validator)| {
+        let mut v = validator(1, 1, 40 * G);
+        change(&mut v);
+        let mut b = books(4);
+        b.push_validator(&v).unwrap();
+        b
+    };
+    let changes: [fn(&mut Validator); 9] = [
+        |v| v.public_key[47] = 0,
+        |v| v.withdrawal_credentials[31] = 0,
+        |v| v.slashed = true,
+        |v| v.effective_balance = 0,
+        |v| v.activation_eligibility_epoch = 1,
+        |v| v.activation_epoch = 1,
+        |v| v.exit_epoch = 1,
+        |v| v.withdrawable_epoch = 1,
+        |v| v.balance = 0,
+    ];
+    for change in changes {
+        assert_eq!(with(change), with(change));
+        assert_ne!(with(change), with(|_| ()));
+    }
+}
+
+#[test]
+fn settings_of_a_file() {
+    let limits =
+        |n: [u64; 4]| Limits { registry: n[0], deposits: n[1], partials: n[2], consolidations: n[3] };
+    let example = Books::open(include_bytes!("../../../example/opening.w")).unwrap();
+    assert_eq!(example.settings(), Settings::mainnet(limits([256; 4])));
+    // No two numbers are the same.
+    let settings = Settings {
+        shard_committee_period: 7,
+        max_seed_lookahead: 6,
+        ..Settings::mainnet(limits([9, 10, 11, 12]))
+    };
+    let mut b = Books::new(&settings, &Scalars::default());
+    assert_eq!(b.settings(), settings);
+    b.push_validator(&validator(1, 1, 0)).unwrap();
+    assert_eq!(Books::open(&b.write().unwrap()).unwrap().settings(), settings);
+}
+
+#[test]
 fn calls_files() {
     let calls = include_bytes!("../../../example/calls.w");
     let mut b = Books::open(include_bytes!("../../../example/opening.w")).unwrap();
@@ -181,4 +286,16 @@ fn calls_files() {
     assert_eq!(one_by_one.process_voluntary_exit(0, 1000, true), Ok(()));
     assert_eq!(one_by_one.process_voluntary_exit(0, 1000, true), Err(Refused(12)));
     assert_eq!(b, one_by_one);
+}
+
+/// The stack that the documentation says is enough, for the calls that take most of it.
+#[test]
+fn stack() {
+    let calls = || {
+        let mut b = with_queues();
+        assert_eq!(b.process_pending_consolidations(), Ok(()));
+        assert_eq!(b.turn(), Ok(()));
+        assert!(b.carry_out(include_bytes!("../../../example/calls.w")).is_ok());
+    };
+    thread::Builder::new().stack_size(1 << 20).spawn(calls).unwrap().join().unwrap();
 }
