@@ -2,8 +2,8 @@
  *
  * `rt staticlib solarbasil` writes target/staticlib/libsolarbasil.a. It needs memset and memcpy of the C library.
  *
- * Stack. The turn, the consolidation step and a calls file take 530,000 bytes, every other call less than 8,000. A
- * thread with a stack of 1 MiB has enough for all of them.
+ * Stack. The turn, the consolidation step and a calls file take less than 530,000 bytes, every other call less than
+ * 8,000. A thread with a stack of 1 MiB has enough for all of them.
  *
  * Buffers. Each is a pointer and a length, which counts items and not bytes. A function may be lent any numbers and any
  * lengths: what it answers and leaves is proved for all of them. The caller owes what C cannot check: each pointer is
@@ -103,7 +103,7 @@ uint8_t solarbasil_penalty(
  * An unknown key is added as a validator and its amount queued as a deposit; with a bad signature neither is done, and
  * the answer is 0. A known key's amount is queued with a good and with a bad signature. If the signature is good, the
  * credentials begin with 02 and those of the validator with 01, the validator switches: its credentials then begin with
- * 02, and its balance above min_activation_balance is queued too, behind the amount. 40, 41. */
+ * 02, and its balance above min_activation_balance moves to the queue, behind the amount. 40, 41. */
 uint8_t solarbasil_process_deposit_receipt(
     const uint64_t *settings, size_t settings_len, uint64_t *scalars, size_t scalars_len,
     uint8_t *identities, size_t identities_len, uint64_t *validators, size_t validators_len,

@@ -4,9 +4,9 @@
 //! leaves is proved in the library; nothing here computes a balance. `interface/c/solarbasil.h` says what each call
 //! does, and with which numbers it can be refused. Amounts are in Gwei.
 //!
-//! `turn`, `process_pending_consolidations` and `carry_out` take 530,000 bytes of stack, every other call less than
-//! 16 KiB. A thread with a stack of 1 MiB has enough for all of them; Rust's own threads have 2 MiB. A stack that is
-//! too small ends the program, as in any Rust function.
+//! `turn`, `process_pending_consolidations` and `carry_out` take some 530,000 bytes of stack, every other call less
+//! than 16 KiB. A thread with a stack of 1 MiB has enough for all of them; Rust's own threads have 2 MiB. A stack that
+//! is too small ends the program, as in any Rust function.
 
 mod ffi;
 
