@@ -42,14 +42,13 @@ fn settings() -> Settings {
     settings
 }
 
-/// One of 64 has left and is withdrawable, one of 64 has an excess to sweep; half compound, and these hold 40 G. The
-/// last two are as any that can exit and consolidate.
+/// One in 64 has left with its balance and is withdrawable; one in 128 has an excess over 32 G; half compound, and these
+/// hold 40 G. The last two are as any that can exit and consolidate.
 fn validator(i: u64, count: u64) -> Validator {
     let last = i + 2 >= count;
-    let left = i % 64 == 7 && !last;
-    let swept = i % 64 == 39 && !last;
-    let compounding = (i % 2 == 0 || last) && !swept;
-    let balance = if compounding { 40 * G } else { 32 * G };
+    let left = i % 64 == SOURCE;
+    let excess = i % 128 == TARGET;
+    let compounding = i % 2 == 0 || last;
     Validator {
         public_key: key(i),
         withdrawal_credentials: credentials(if compounding { 2 } else { 1 }),
@@ -59,12 +58,25 @@ fn validator(i: u64, count: u64) -> Validator {
         activation_epoch: 0,
         exit_epoch: if left { EPOCH - 300 } else { u64::MAX },
         withdrawable_epoch: if left { EPOCH - 10 } else { u64::MAX },
-        balance: if left { 0 } else { balance + u64::from(swept) * G },
+        balance: if compounding { 40 * G } else { 32 * G + u64::from(excess) * G },
     }
 }
 
-/// Deposits of 1 G for one validator in 16, of which the carry pays for half; a partial for one in 16; consolidations
-/// of the validators that have left, one in 64, into their neighbours, the half of which is ready.
+/// Where in each 64 validators the source of a consolidation stands, and its target: this one or the next.
+const SOURCE: u64 = 7;
+const TARGET: u64 = 9;
+
+/// The consolidations, one in 64 validators. Each moves the balance of a validator that has left. Every second target is
+/// to be switched to compounding, which queues its excess; the others compound already. The middle one is not ready,
+/// since its source stays, and those behind it wait.
+fn consolidation(i: u64, count: u64) -> PendingConsolidation {
+    let ready = i != count / 128;
+    let source_index = 64 * i + if ready { SOURCE } else { SOURCE + 1 };
+    PendingConsolidation { source_index, target_index: 64 * i + TARGET + i % 2 }
+}
+
+/// Deposits of 1 G for one validator in 16, of which the carry pays for half, and the churn of the epoch for 64 more; a
+/// partial for one in 16; consolidations, of which half are ready.
 pub fn make(count: u64) -> Both {
     let scalars = Scalars {
         epoch: EPOCH,
@@ -83,11 +95,7 @@ pub fn make(count: u64) -> Both {
         ours.push_partial(&partial).expect("room");
     }
     for i in 0..count / 64 {
-        // the middle one is not ready: its source stays
-        let ready = i != count / 128;
-        let source_index = 64 * i + if ready { 7 } else { 8 };
-        let entry = PendingConsolidation { source_index, target_index: 64 * i + 9 + i % 4 };
-        ours.push_consolidation(&entry).expect("room");
+        ours.push_consolidation(&consolidation(i, count)).expect("room");
     }
     let held = held(&ours);
     Both { context: context(&held.settings), state: state_of(&held), ours }
