@@ -1,9 +1,10 @@
 //! The books that are measured, as the library and as the Rust hold them.
+use crate::calls::{record, sum};
 use oracle::{
     books as held,
     engine::narrow::{context, state_of, State},
 };
-use rules64::electra::Context;
+use rules64::electra::{self as rust, Context};
 use solarbasil::{
     Books, Limits, PendingBalanceDeposit, PendingConsolidation, PendingPartialWithdrawal, Scalars, Settings,
     Validator,
@@ -15,10 +16,23 @@ pub const EPOCH: u64 = 100_000;
 /// The address of every validator, so that any two may be consolidated.
 pub const ADDRESS: [u8; 20] = [0x5A; 20];
 
+#[derive(Clone)]
 pub struct Both {
     pub ours: Books,
     pub state: State,
     pub context: Context,
+}
+
+impl Both {
+    /// Both sides hold the same books, and have the same expected list and the same total.
+    pub fn agree(&self, name: &str) {
+        assert!(state_of(&held(&self.ours)) == self.state, "{name}: the books differ");
+        let expected = self.ours.get_expected_withdrawals().expect("an expected list");
+        let (list, partials) = rust::get_expected_withdrawals(&self.state, &self.context);
+        let same = expected.list.iter().map(record).eq(list) && expected.partials == partials;
+        assert!(same, "{name}: the expected lists differ");
+        assert!(self.ours.total() == Ok(sum(&self.state)), "{name}: the totals differ");
+    }
 }
 
 pub fn key(number: u64) -> [u8; 48] {

@@ -31,12 +31,6 @@ const GOOD: BlsSignature = BlsSignature { good: true };
 /// The calls on books of so many validators; `list` is the expected list.
 pub fn pairs(count: u64, list: Vec<Withdrawal>) -> Vec<Pair> {
     let last = count - 1;
-    let record = |w: &Withdrawal| rust::Withdrawal {
-        index: w.index as usize,
-        validator_index: w.validator_index as usize,
-        address: ByteVector(w.address),
-        amount: w.amount,
-    };
     let payload = Payload { withdrawals: List(list.iter().map(record).collect()) };
     let receipt = rust::DepositReceipt {
         public_key: ByteVector(key(last)),
@@ -123,6 +117,16 @@ pub fn pairs(count: u64, list: Vec<Withdrawal>) -> Vec<Pair> {
         pair("turn", |b| b.turn().is_ok(), turn),
         pair("total", |b| black_box(b.total()).is_ok(), |s, _| black_box(sum(s)) > 0),
     ]
+}
+
+/// A withdrawal as the commit holds it.
+pub fn record(w: &Withdrawal) -> rust::Withdrawal {
+    rust::Withdrawal {
+        index: w.index as usize,
+        validator_index: w.validator_index as usize,
+        address: ByteVector(w.address),
+        amount: w.amount,
+    }
 }
 
 /// Document 01's turn, of the commit's three steps.

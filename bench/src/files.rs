@@ -1,17 +1,17 @@
 //! The two files: a books file read and written beside a plain copy of its bytes, and a calls file carried out beside
 //! the commit's functions in a loop.
 use crate::{
-    books::{credentials, full, held, key, make, Both, ADDRESS, EPOCH, G},
+    books::{credentials, full, key, make, Both, ADDRESS, EPOCH, G},
     calls::sum,
     times::{medians, ratio, rounds, timed},
 };
 use oracle::{
     books::{Call, Withdrawal},
-    engine::narrow::{apply, state_of, State},
+    engine::narrow::{apply, State},
     file::write_calls,
 };
 use rules64::electra::Context;
-use solarbasil::Books;
+use solarbasil::{Books, Line};
 use std::{hint::black_box, time::Duration};
 
 /// Reading and writing, in milliseconds and in copies of the file.
@@ -78,14 +78,18 @@ fn in_loop(state: &mut State, context: &Context, calls: &[Call]) -> Vec<u64> {
     calls.iter().map(one).collect()
 }
 
+fn done(line: &Line) -> bool {
+    u64::from(line.answer) == 0
+}
+
 /// Both sides leave the same books and the same sums, and every call is done.
 fn check(both: &Both, file: &[u8], calls: &[Call]) {
-    let (mut ours, mut state) = (both.ours.clone(), both.state.clone());
-    let lines = ours.carry_out(file).expect("a calls file");
-    let sums = in_loop(&mut state, &both.context, calls);
-    assert!(lines.iter().all(|line| line.answer == 0), "a refused call");
+    let mut after = both.clone();
+    let lines = after.ours.carry_out(file).expect("a calls file");
+    let sums = in_loop(&mut after.state, &both.context, calls);
+    assert!(lines.iter().all(done), "a refused call");
     assert!(lines.iter().map(|line| line.total).eq(sums), "the sums differ");
-    assert!(state_of(&held(&ours)) == state, "the books differ");
+    after.agree("a calls file");
 }
 
 fn rewards(validators: u64) -> Vec<Call> {
@@ -101,7 +105,7 @@ fn mixed(opening: &Books) -> Vec<Call> {
         let call = next(&books, calls.len() as u64);
         let lines = books.carry_out(&write_calls(&[call.clone()])).expect("a calls file");
         // where one cannot be done, a reward takes its place
-        let done = lines[0].answer == 0;
+        let done = done(&lines[0]);
         calls.push(if done { call } else { Call::Reward { validator: 0, amount: G } });
         if !done {
             books.reward(0, G).expect("a reward");

@@ -8,9 +8,8 @@ mod calls;
 mod files;
 mod times;
 
-use books::{held, make, Both};
+use books::{make, Both};
 use calls::{pairs, Pair};
-use oracle::engine::narrow::state_of;
 use std::{env, hint::black_box, time::Duration};
 use times::{median, medians, micros, ratio, rounds, timed};
 
@@ -47,6 +46,7 @@ struct Subject {
 impl Subject {
     fn new(validators: u64) -> Self {
         let both = make(validators);
+        both.agree("the opening books");
         let list = both.ours.get_expected_withdrawals().expect("an expected list").list;
         Subject { validators, pairs: pairs(validators, list), both }
     }
@@ -61,11 +61,12 @@ impl Subject {
     }
 }
 
-/// Both sides leave the same books.
+/// Both sides do the call and leave the same.
 fn check(both: &Both, pair: &Pair) {
-    let (mut ours, mut state) = (both.ours.clone(), both.state.clone());
-    assert!((pair.ours)(&mut ours) && (pair.rust)(&mut state, &both.context), "{}: refused", pair.name);
-    assert!(state_of(&held(&ours)) == state, "{}: the books differ", pair.name);
+    let mut after = both.clone();
+    let done = (pair.ours)(&mut after.ours) && (pair.rust)(&mut after.state, &after.context);
+    assert!(done, "{}: refused", pair.name);
+    after.agree(pair.name);
 }
 
 /// The two times of each round, and that of the tests alone. Each gets its books fresh, outside the timed part.
