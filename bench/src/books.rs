@@ -13,6 +13,9 @@ use solarbasil::{
 pub const G: u64 = 1_000_000_000;
 pub const EPOCH: u64 = 100_000;
 
+/// Every table has room for so many records.
+pub const ROOM: u64 = 65_536;
+
 /// The address of every validator, so that any two may be consolidated.
 pub const ADDRESS: [u8; 20] = [0x5A; 20];
 
@@ -24,6 +27,17 @@ pub struct Both {
 }
 
 impl Both {
+    /// A copy of the Rust's state. Its queues have room for more records than a call adds, as the library's tables do,
+    /// so that none is moved to a larger place in the midst of a call.
+    pub fn fresh_state(&self) -> State {
+        const MORE: usize = 1_024;
+        let mut state = self.state.clone();
+        state.pending_balance_deposits.reserve(MORE);
+        state.pending_partial_withdrawals.reserve(MORE);
+        state.pending_consolidations.reserve(MORE);
+        state
+    }
+
     /// Both sides hold the same books, and have the same expected list and the same total.
     pub fn agree(&self, name: &str) {
         assert!(state_of(&held(&self.ours)) == self.state, "{name}: the books differ");
@@ -50,14 +64,14 @@ pub fn credentials(prefix: u8) -> [u8; 32] {
 
 /// Mainnet with an activation-exit churn of 64 G, so that there is churn for consolidations.
 fn settings() -> Settings {
-    let limits = Limits { registry: 65_536, deposits: 65_536, partials: 65_536, consolidations: 65_536 };
+    let limits = Limits { registry: ROOM, deposits: ROOM, partials: ROOM, consolidations: ROOM };
     let mut settings = Settings::mainnet(limits);
     settings.max_per_epoch_activation_exit_churn_limit = 64 * G;
     settings
 }
 
-/// One in 64 has left with its balance and is withdrawable; one in 128 has an excess over 32 G; half compound, and these
-/// hold 40 G. The last two are as any that can exit and consolidate.
+/// One in 64 has left with its balance and is withdrawable; one in 128 has an excess over 32 G; half compound, and
+/// these hold 40 G. The last two are as any that can exit and consolidate.
 fn validator(i: u64, count: u64) -> Validator {
     let last = i + 2 >= count;
     let left = i % 64 == SOURCE;
@@ -80,9 +94,9 @@ fn validator(i: u64, count: u64) -> Validator {
 const SOURCE: u64 = 7;
 const TARGET: u64 = 9;
 
-/// The consolidations, one in 64 validators. Each moves the balance of a validator that has left. Every second target is
-/// to be switched to compounding, which queues its excess; the others compound already. The middle one is not ready,
-/// since its source stays, and those behind it wait.
+/// The consolidations, one in 64 validators. Each moves the balance of a validator that has left. Every second target
+/// is to be switched to compounding, which queues its excess; the others compound already. The middle one is not
+/// ready, since its source stays, and those behind it wait.
 fn consolidation(i: u64, count: u64) -> PendingConsolidation {
     let ready = i != count / 128;
     let source_index = 64 * i + if ready { SOURCE } else { SOURCE + 1 };

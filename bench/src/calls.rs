@@ -1,12 +1,12 @@
 //! Each public call, as the library's function and as the commit's.
-use crate::books::{credentials, key, ADDRESS, EPOCH, G};
+use crate::books::{credentials, key, ADDRESS, EPOCH, G, ROOM};
 use oracle::engine::narrow::State;
 use rules64::{
     electra::{self as rust, Context},
     primitives::{BlsSignature, ByteVector},
     ssz::prelude::List,
 };
-use solarbasil::{Books, Withdrawal};
+use solarbasil::{Books, Refused, Withdrawal};
 use std::hint::black_box;
 
 pub type Payload = rust::ExecutionPayload<0, 0, 0, 0, 16, 0, 0>;
@@ -117,6 +117,11 @@ pub fn pairs(count: u64, list: Vec<Withdrawal>) -> Vec<Pair> {
         pair("turn", |b| b.turn().is_ok(), turn),
         pair("total", |b| black_box(b.total()).is_ok(), |s, _| black_box(sum(s)) > 0),
     ]
+}
+
+/// The tests of what is handed in alone: a penalty of a validator that no books have is refused right after them.
+pub fn refused(books: &mut Books) {
+    assert!(books.penalty(ROOM, 1) == Err(Refused(10)), "a penalty of no validator was not refused");
 }
 
 /// A withdrawal as the commit holds it.

@@ -1,31 +1,53 @@
-//! Times of two sides in interleaved rounds, and what is printed of them.
-use std::{
-    hint::black_box,
-    time::{Duration, Instant},
-};
+//! Times of three sides in interleaved rounds, and what is printed of them. All times are in microseconds.
+use std::{hint::black_box, time::Instant};
 
-pub fn timed<T>(work: impl FnOnce() -> T) -> Duration {
+/// The sides' order in each round. In six rounds each side is first, second and third twice, and comes right after each
+/// of the others equally often.
+const ORDERS: [[usize; 3]; 6] = [[0, 1, 2], [1, 2, 0], [2, 0, 1], [2, 1, 0], [1, 0, 2], [0, 2, 1]];
+
+/// What the work gives is freed after the clock is read.
+pub fn timed<T>(work: impl FnOnce() -> T) -> f64 {
     let start = Instant::now();
-    black_box(work());
-    start.elapsed()
+    let _given = black_box(work());
+    start.elapsed().as_nanos() as f64 / 1000.0
 }
 
-/// The two times of each round; the sides take turns in who is first.
-pub fn rounds(
-    count: usize,
-    mut ours: impl FnMut() -> Duration,
-    mut other: impl FnMut() -> Duration,
-) -> Vec<[Duration; 2]> {
+/// The time of work on a copy that the caller has just made; the copy is freed after the clock is read.
+pub fn timed_on<C, T>(mut copy: C, work: impl FnOnce(&mut C) -> T) -> f64 {
+    timed(|| work(black_box(&mut copy)))
+}
+
+/// What every time includes: the clock, read twice with nothing between.
+pub fn clock() -> f64 {
+    let times: Vec<f64> = (0..10_001).map(|_| timed(|| ())).collect();
+    median(&times)
+}
+
+/// The times of the three sides in each round.
+pub struct Times(Vec<[f64; 3]>);
+
+pub fn rounds(count: usize, mut sides: [&mut dyn FnMut() -> f64; 3]) -> Times {
     let round = |number: usize| {
-        if number % 2 == 0 {
-            let first = ours();
-            [first, other()]
-        } else {
-            let first = other();
-            [ours(), first]
+        let mut times = [0.0; 3];
+        for side in ORDERS[number % ORDERS.len()] {
+            times[side] = sides[side]();
         }
+        times
     };
-    (0..count).map(round).collect()
+    Times((0..count).map(round).collect())
+}
+
+impl Times {
+    pub fn medians(&self) -> [f64; 3] {
+        [0, 1, 2].map(|side| median(&self.0.iter().map(|round| round[side]).collect::<Vec<f64>>()))
+    }
+
+    /// The median of the rounds' ratios of one side to another, and their quartiles.
+    pub fn ratio(&self, side: usize, other: usize) -> String {
+        let ratios: Vec<f64> = self.0.iter().map(|round| round[side] / round[other]).collect();
+        let [low, middle, high] = [1, 2, 3].map(|quarters| short(quarter(&ratios, quarters)));
+        format!("{middle} ({low} to {high})")
+    }
 }
 
 /// The value below which so many quarters of the values lie.
@@ -39,22 +61,13 @@ pub fn median(values: &[f64]) -> f64 {
     quarter(values, 2)
 }
 
-pub fn micros(time: &Duration) -> f64 {
-    time.as_nanos() as f64 / 1000.0
-}
-
-/// The median of each side, in microseconds.
-pub fn medians(times: &[[Duration; 2]]) -> [f64; 2] {
-    [0, 1].map(|side| median(&times.iter().map(|round| micros(&round[side])).collect::<Vec<f64>>()))
-}
-
-/// The median of the rounds' ratios, and their quartiles. None where the other side takes less than a microsecond: the
-/// clock is too coarse then.
-pub fn ratio(times: &[[Duration; 2]]) -> String {
-    if medians(times)[1] < 1.0 {
-        return String::new();
-    }
-    let ratios: Vec<f64> = times.iter().map(|[ours, other]| micros(ours) / micros(other)).collect();
-    let [low, middle, high] = [1, 2, 3].map(|quarters| quarter(&ratios, quarters));
-    format!("{middle:.2} ({low:.2} to {high:.2})")
+/// Two or three digits of a number.
+pub fn short(value: f64) -> String {
+    let digits = match value.abs() {
+        size if size < 0.1 => 3,
+        size if size < 10.0 => 2,
+        size if size < 100.0 => 1,
+        _ => 0,
+    };
+    format!("{value:.digits$}")
 }
