@@ -1,8 +1,9 @@
 //! Each public call on the same books, by the static library with all its tests of what is handed in, and by the mended
-//! Rust, which has no such tests, in one process; then the two files. Prints tables and what their
+//! Rust, which has no such tests, in one process; then the tests alone, and the two files. Prints tables and what their
 //! columns say.
 //!
 //!     bench [ROUNDS]
+mod alone;
 mod books;
 mod calls;
 mod each;
@@ -21,6 +22,7 @@ fn main() {
     println!("Times are medians of {count} rounds where nothing else is said; each includes {clock:.3} µs");
     println!("for the clock. A ratio is the median of the rounds' ratios, with their quartiles in brackets.");
     each::calls(count);
+    alone::tests(count);
     files::books_files(count);
     files::calls_files(count);
 }
