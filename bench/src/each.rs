@@ -29,7 +29,9 @@ library: the whole call, with all its tests of settings, buffers and books. Rust
 has no such tests. tests: a penalty of a validator that is not there, which is refused right after the tests. In each
 round each of the three is timed once, right after a fresh copy of the books is made for it; they take turns in all six
 orders. core: the median of the library less that of the tests. It works on what the tests have just read, and would
-take longer alone on a fresh copy. Where it is below 0 it is lost in the spread of the two medians.";
+take longer alone on a fresh copy. Where it is below 0 it is lost in the spread of the two medians. The library's tables
+have room for 65,536 records whatever the count, so that its copy is 12 MB and pushes part of itself out of the caches;
+the Rust's is as long as its records, which favours the Rust on few validators.";
 
 /// Books of so many validators on both sides, and the calls on them.
 struct Subject {

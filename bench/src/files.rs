@@ -109,7 +109,7 @@ fn with_sums(state: &mut State, context: &Context, calls: &[Call]) -> Vec<u64> {
 }
 
 fn done(line: &Line) -> bool {
-    u64::from(line.answer) == 0
+    line.answer == 0
 }
 
 /// Both sides leave the same books and the same sums, and every call is done.
