@@ -60,6 +60,11 @@ switching amount =
     (with-exit 990 995 first ∷ validator 2 1 (32 * G) (32 * G + 1) ∷ [])
     (deposit 0 amount ∷ []) [] (pending 0 1 ∷ [])
 
+-- validator 1 gets a withdrawal of index 5
+second-partial : Books
+second-partial =
+    with-next-withdrawal 5 0 (books (first ∷ validator 2 2 (32 * G) (33 * G) ∷ []) [] (partial 1 (5 * G) 1000 ∷ []) [])
+
 one-partial : Books
 one-partial = books (validator 1 2 (32 * G) (33 * G) ∷ []) [] (partial 0 (5 * G) 1000 ∷ []) []
 
@@ -268,6 +273,9 @@ causes =
     ∷ gives 0 mainnet (alone (since 0 744 first)) (exit 1000 true)
     ∷ gives 15 mainnet (partial-waiting 1) (exit 1000 true)
     ∷ gives 0 mainnet (partial-waiting 0) (exit 1000 true)
+    -- another validator's partials do not hinder
+    ∷ gives 0 mainnet (books (second ∷ first ∷ []) [] (partial 1 1 2000 ∷ []) []) (exit 1000 true)
+    ∷ gives 0 mainnet (books (second ∷ first ∷ []) [] (partial 0 1 2000 ∷ []) []) (call (voluntary-exit 1 1000 true))
     ∷ gives 16 mainnet (alone first) (exit 1000 false)
     -- 20, 21, 22, 10, 11, 12, 13, 23, 24, 16 of a consolidation
     ∷ gives 20 (consolidations-limit 1) (books (first ∷ second ∷ []) [] [] (pending 0 1 ∷ [])) consolidate
@@ -287,9 +295,18 @@ causes =
     ∷ gives 24 churn-64 (pair first (with-withdrawal-credentials (credentials 1 7) second)) consolidate
     ∷ gives 16 churn-64 (pair first second) (call (consolidation 0 1 1000 false))
     -- 30
-    ∷ gives 30 mainnet one-partial (call (withdrawals []))
-    ∷ gives 30 mainnet one-partial (call (withdrawals (withdrawal 0 0 (G + 1) ∷ [])))
-    ∷ gives 0 mainnet one-partial (call (withdrawals (withdrawal 0 0 G ∷ [])))
+    ∷ gives 0 mainnet second-partial (call (withdrawals (withdrawal 5 1 G ∷ [])))
+    ∷ every (λ ws. gives 30 mainnet second-partial (call (withdrawals ws)))
+    ([]
+    ∷ (withdrawal 5 1 G ∷ withdrawal 6 1 G ∷ [])
+    ∷ (withdrawal 4 1 G ∷ [])
+    ∷ (withdrawal 6 1 G ∷ [])
+    ∷ (withdrawal 5 0 G ∷ [])
+    ∷ (withdrawal 5 2 G ∷ [])
+    ∷ (withdrawal 5 1 (G - 1) ∷ [])
+    ∷ (withdrawal 5 1 (G + 1) ∷ [])
+    ∷ (record { index = 5; validator-index = 1; address = address 1; amount = G } ∷ [])
+    ∷ [])
     -- 40: the registry, the queue after a receipt, and after a turn's switch
     ∷ gives 40 one-of-each (alone first) (receipt 2 1 G true)
     ∷ gives 0 one-of-each (alone first) (receipt 2 1 G false)
@@ -334,5 +351,5 @@ causes =
 
 pub causes-hold : all causes ≡ true
 unfolding causes payload-of-17 one-of-each churn-64 churn-33 churn-32 first second alone pair partial-waiting
-    switching one-partial within short exit consolidate receipt consolidations-limit deposits-limit gives opened
+    switching second-partial one-partial within short exit consolidate receipt consolidations-limit deposits-limit gives opened
 causes-hold = refl

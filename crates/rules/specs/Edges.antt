@@ -236,7 +236,12 @@ further-edges =
     (after mainnet sweeping (call (withdrawals (get-expected-withdrawals mainnet sweeping)))
     .next-withdrawal-validator-index)
     16
-    -- and the next index behind the last one listed
+    -- a list that is not full moves it by the whole sweep, around the registry: 16384 modulo 5
+    ∷ eqb
+    (after mainnet (books (replicate 5 (validator 1 1 (32 * G) (32 * G))) [] [] []) (call (withdrawals []))
+    .next-withdrawal-validator-index)
+    4
+    -- the next index stands behind the last one listed
     ∷ eqb
     (after mainnet sweeping (call (withdrawals (get-expected-withdrawals mainnet sweeping))) .next-withdrawal-index)
     116
@@ -253,6 +258,12 @@ further-edges =
     ∷ same-books (after mainnet no-receipt-yet (receipt-at 5)) (with-receipts-start 5 no-receipt-yet)
     ∷ same-books
     (after mainnet (with-receipts-start 5 no-receipt-yet) (receipt-at 6)) (with-receipts-start 5 no-receipt-yet)
+    -- a source withdrawable at this epoch is consolidated
+    ∷ same-books
+    (process-pending-consolidations mainnet (consolidating (with-exit 990 1000 (validator 1 1 (32 * G) (32 * G)))))
+    (books
+    (with-exit 990 1000 (validator 1 1 (32 * G) 0) ∷ target (104 * G) ∷ withdrawable 0 ∷ [])
+    [] [] [])
     -- a switch with no more than the minimum queues no entry
     ∷ same-books
     (after mainnet (alone (validator 1 1 (32 * G) (32 * G))) (receipt 1 true))
@@ -261,7 +272,8 @@ further-edges =
 
 pub further-edges-hold : all further-edges ≡ true
 unfolding further-edges joined validator-numbers books-numbers same-books deposits-leave one-paid
-    deposit-leaves alone exit receipt no-receipt-yet receipt-at sweeping large large-books opened
+    deposit-leaves alone exit receipt no-receipt-yet receipt-at sweeping large large-books target withdrawable
+    consolidating opened
 further-edges-hold = refl
 
 -- ---- withdrawals: what is swept, paid and asked for
@@ -286,12 +298,19 @@ withdrawal-edges =
     ∷ pays (alone (validator 1 2 (32 * G) (33 * G))) []
     ∷ pays (alone (validator 1 2 (2048 * G) (2048 * G + 1))) (1 ∷ [])
     ∷ pays (alone (validator 1 0 (32 * G) (33 * G))) []
-    -- a partial with no more than the minimum there is not paid
+    -- a partial is not paid with no more than the minimum there, nor of a validator that exits
     ∷ pays (books (validator 1 2 (32 * G) (32 * G) ∷ []) [] (partial 0 1 0 ∷ []) []) []
-    -- a partial is asked for: with nothing above the minimum, too early, by an unknown key; then in time
+    ∷ pays (books (with-exit 1001 1257 (validator 1 2 (32 * G) (33 * G)) ∷ []) [] (partial 0 1 0 ∷ []) []) []
+    -- a partial is asked for with nothing above the minimum, too early, by an unknown key
     ∷ unchanged mainnet (compounding 0 (32 * G)) (request 1)
     ∷ unchanged mainnet (compounding 745 (33 * G)) (request 1)
     ∷ unchanged mainnet (compounding 0 (33 * G)) (call (withdrawal-request (address 0) (key 2) 1))
+    -- or for another address, without a credential to withdraw, after an exit began
+    ∷ unchanged mainnet (compounding 0 (33 * G)) (call (withdrawal-request (address 1) (key 1) 1))
+    ∷ unchanged mainnet (alone (validator 1 0 (32 * G) (33 * G))) (request 0)
+    ∷ unchanged mainnet (alone (with-exit 1001 1257 (validator 1 2 (32 * G) (33 * G)))) (request 0)
+    ∷ unchanged mainnet (alone (with-exit 1001 1257 (validator 1 2 (32 * G) (33 * G)))) (request 1)
+    -- and in time
     ∷ same-books
     (after mainnet (compounding 744 (33 * G)) (request 1))
     (with-exit-churn (128 * G - 1) 1005
