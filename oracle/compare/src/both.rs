@@ -1,12 +1,12 @@
 //! One step, taken by the library and by the mended Rust, and what differs.
 use crate::{
-    lent::{self, Given, Lent, BYTE, FILLER, IDENTITY, IDENTITY_COLUMNS, NUMBERS, VALIDATOR_COLUMNS, WIDTHS},
+    lent::{self, Given, Lent, BYTE, FILLER, NUMBERS},
     step::{Ask, Step},
 };
 use oracle::{
     acceptance,
     answer::{answer, assign, expected, Engine},
-    books::{setting, Books, Call, Settings, Withdrawal, SETTINGS},
+    books::{setting, Books, Call, Settings, Withdrawal},
     file,
 };
 use std::cell::Cell;
@@ -59,38 +59,55 @@ pub struct Position {
     pub books: Books,
 }
 
+/// What both sides answered.
+pub struct Taken {
+    pub number: u8,
+    /// code and answer of each call of a file
+    pub of_file: Vec<(u64, u8)>,
+    /// the books after the step, where it may have changed them
+    after: Option<Books>,
+}
+
 impl Position {
     /// Takes a step on both sides: the answer, or what differs.
-    pub fn take(&mut self, step: &Step) -> Result<u8, String> {
+    pub fn take(&mut self, step: &Step) -> Result<Taken, String> {
         let Some(spoil) = step.spoil else {
-            let (number, after) = take(&mut self.lent, Some(&self.books), step)?;
-            if let Some(after) = after {
+            let mut taken = take(&mut self.lent, Some(&self.books), step)?;
+            if let Some(after) = taken.after.take() {
                 self.books = after;
             }
-            return Ok(number);
+            return Ok(taken);
         };
         let unspoiled = self.lent.clone();
         spoil.apply(&mut self.lent);
         let held = if self.lent.scalars.len() < NUMBERS { None } else { self.lent.books() };
-        let (number, after) = take(&mut self.lent, held.as_ref(), step)?;
-        match after.or(held) {
-            Some(books) if number == 0 => self.books = books,
+        let mut taken = take(&mut self.lent, held.as_ref(), step)?;
+        match taken.after.take().or(held) {
+            Some(books) if taken.number == 0 => self.books = books,
             _ => self.lent = unspoiled,
         }
-        Ok(number)
+        Ok(taken)
     }
 }
 
 /// The step on the lent buffers; `held` are the books in them, None where no books can be read there.
-fn take(lent: &mut Lent, held: Option<&Books>, step: &Step) -> Result<(u8, Option<Books>), String> {
+fn take(lent: &mut Lent, held: Option<&Books>, step: &Step) -> Result<Taken, String> {
     QUIET.set(true);
     let want = wanted(lent, held, step);
     QUIET.set(false);
     let before = lent.clone();
     let given = lent::call(lent, step);
-    match difference(&kept(before, step, want.number), lent, &given, &want) {
+    match difference(kept(before, step, want.number), lent, &given, &want) {
         Some(difference) => Err(difference),
-        None => Ok((given.number, want.after)),
+        None => Ok(Taken { number: given.number, of_file: answers_of_file(step, &want), after: want.after }),
+    }
+}
+
+/// The results of a calls file are three numbers a call: its code, its answer, the total after it.
+fn answers_of_file(step: &Step, want: &Want) -> Vec<(u64, u8)> {
+    match step.ask {
+        Ask::CarryOut(..) => want.words.chunks_exact(3).map(|three| (three[0], three[1] as u8)).collect(),
+        _ => vec![],
     }
 }
 
@@ -201,9 +218,12 @@ fn address_bytes(list: &[Withdrawal]) -> Vec<u8> {
     bytes
 }
 
-fn difference(kept: &Lent, after: &Lent, given: &Given, want: &Want) -> Option<String> {
+fn difference(kept: Lent, after: &Lent, given: &Given, want: &Want) -> Option<String> {
     if let Some(failure) = &want.failure {
         return Some(format!("the mended Rust: {failure}"));
+    }
+    if !given.kept {
+        return Some("the library changed one of the call's own buffers".into());
     }
     if u32::from(given.number) != want.number {
         return Some(format!("answers: library {}, Rust {}", given.number, want.number));
@@ -211,67 +231,30 @@ fn difference(kept: &Lent, after: &Lent, given: &Given, want: &Want) -> Option<S
     books_difference(kept, after, want.after.as_ref()).or_else(|| results_difference(given, want))
 }
 
-/// The library's buffers against the books that the Rust left, or against what they held.
-fn books_difference(kept: &Lent, after: &Lent, books: Option<&Books>) -> Option<String> {
-    let Some(books) = books else {
-        return (kept != after).then(|| "the library changed a buffer, the Rust changes none".into());
-    };
-    if after.settings[..SETTINGS] != books.settings {
-        return Some(format!("settings: library {:?}, Rust {:?}", after.settings, books.settings));
+/// The library's buffers against what they held, with the books that the Rust left written over it.
+fn books_difference(mut kept: Lent, after: &Lent, books: Option<&Books>) -> Option<String> {
+    if let Some(books) = books {
+        kept.store(books);
     }
-    if kept.settings[SETTINGS..] != after.settings[SETTINGS..] {
-        return Some("the library changed numbers past the settings".into());
+    if kept == *after {
+        return None;
     }
-    let scalars = lent::scalar_words(books);
-    if after.scalars[..NUMBERS] != scalars {
-        return Some(format!("scalars: library {:?}, Rust {scalars:?}", &after.scalars[..NUMBERS]));
-    }
-    if kept.scalars[NUMBERS..] != after.scalars[NUMBERS..] {
-        return Some("the library changed numbers past the scalars".into());
-    }
-    let [_, deposits, partials, consolidations] = &after.tables;
-    let identities = [kept, after].map(|lent| lent::by_record(&lent.identities, &IDENTITY_COLUMNS));
-    let validators = [kept, after].map(|lent| lent::by_record(&lent.tables[0], &VALIDATOR_COLUMNS));
-    let identity = |one: &oracle::books::Validator| -> [u8; IDENTITY] {
-        let mut bytes = [0; IDENTITY];
-        bytes[..48].copy_from_slice(&one.key);
-        bytes[48..].copy_from_slice(&one.credentials);
-        bytes
-    };
-    let differing = [
-        ("identities", records_difference(&identities[1], &books.validators, identity)),
-        ("validators", records_difference(&validators[1], &books.validators, lent::validator_words)),
-        ("deposits", records_difference(deposits, &books.deposits, lent::deposit_words)),
-        ("partials", records_difference(partials, &books.partials, lent::partial_words)),
-        (
-            "consolidations",
-            records_difference(consolidations, &books.consolidations, lent::consolidation_words),
-        ),
-    ];
-    if let Some((name, Some(text))) = differing.into_iter().find(|(_, text)| text.is_some()) {
-        return Some(format!("{name}: {text}"));
-    }
-    let bytes = IDENTITY * books.validators.len();
-    let past = |table: usize| WIDTHS[table] * after.count(table) as usize;
-    let changed = identities[0][bytes..] != identities[1][bytes..]
-        || validators[0][past(0)..] != validators[1][past(0)..]
-        || (1..4).any(|table| kept.tables[table][past(table)..] != after.tables[table][past(table)..]);
-    changed.then(|| "the library changed words past the records".into())
+    let tables = ["validators", "deposits", "partials", "consolidations"];
+    let numbers = [("settings", &after.settings, &kept.settings), ("scalars", &after.scalars, &kept.scalars)];
+    let of_tables = (0..4).map(|table| (tables[table], &after.tables[table], &kept.tables[table]));
+    let mut told = numbers
+        .into_iter()
+        .chain(of_tables)
+        .filter_map(|(name, ours, theirs)| first_differing(name, ours, theirs));
+    let told = told.next().or_else(|| first_differing("identities", &after.identities, &kept.identities));
+    let refusal = if books.is_none() { " (the Rust changes none)" } else { "" };
+    Some(format!("{}{refusal}", told.unwrap_or("a length".into())))
 }
 
-/// The first record that differs.
-fn records_difference<T, W, const N: usize>(
-    table: &[W],
-    records: &[T],
-    words: impl Fn(&T) -> [W; N],
-) -> Option<String>
-where
-    W: PartialEq + std::fmt::Debug,
-{
-    let pairs = table.chunks_exact(N).zip(records);
-    let mut differing = pairs.enumerate().filter(|(_, (held, record))| **held != words(record));
-    let (position, (held, record)) = differing.next()?;
-    Some(format!("record {position}: library {held:?}, Rust {:?}", words(record)))
+/// The first place at which a buffer differs.
+fn first_differing<W: PartialEq + std::fmt::Debug>(name: &str, ours: &[W], theirs: &[W]) -> Option<String> {
+    let at = ours.iter().zip(theirs).position(|(ours, theirs)| ours != theirs)?;
+    Some(format!("{name}[{at}] of {}: library {:?}, Rust {:?}", ours.len(), ours[at], theirs[at]))
 }
 
 fn results_difference(given: &Given, want: &Want) -> Option<String> {
@@ -297,7 +280,7 @@ fn results_difference(given: &Given, want: &Want) -> Option<String> {
 mod tests {
     //! Each part of what the library leaves is really compared.
     use super::*;
-    use crate::{maker::Maker, step::Lengths};
+    use crate::{lent::WIDTHS, maker::Maker, step::Lengths};
 
     /// Buffers before and after a done turn, what was given and what is wanted.
     fn turned() -> (Lent, Lent, Given, Want) {
@@ -325,11 +308,11 @@ mod tests {
     #[test]
     fn every_changed_word_is_noticed() {
         let (before, after, given, want) = turned();
-        assert_eq!(difference(&before, &after, &given, &want), None);
+        assert_eq!(difference(before.clone(), &after, &given, &want), None);
         let noticed = |change: &dyn Fn(&mut Lent)| {
             let mut changed = after.clone();
             change(&mut changed);
-            difference(&before, &changed, &given, &want).is_some()
+            difference(before.clone(), &changed, &given, &want).is_some()
         };
         assert!((0..after.settings.len()).all(|i| noticed(&|lent| lent.settings[i] ^= 1)));
         assert!((0..after.scalars.len()).all(|i| noticed(&|lent| lent.scalars[i] ^= 1)));
@@ -343,14 +326,17 @@ mod tests {
     fn results_and_refusals_are_compared() {
         let (before, after, mut given, want) = turned();
         given.numbers[1] ^= 1;
-        assert!(difference(&before, &after, &given, &want).is_some());
+        assert!(difference(before.clone(), &after, &given, &want).is_some());
         given.numbers[1] ^= 1;
         given.bytes[0] ^= 1;
-        assert!(difference(&before, &after, &given, &want).is_some());
+        assert!(difference(before.clone(), &after, &given, &want).is_some());
         given.bytes[0] ^= 1;
+        given.kept = false;
+        assert!(difference(before.clone(), &after, &given, &want).is_some());
+        given.kept = true;
         given.number = 2;
         let refused = Want::refused(2);
-        assert!(difference(&before, &after, &given, &refused).is_some());
-        assert_eq!(difference(&before, &before, &given, &refused), None);
+        assert!(difference(before.clone(), &after, &given, &refused).is_some());
+        assert_eq!(difference(before.clone(), &before, &given, &refused), None);
     }
 }

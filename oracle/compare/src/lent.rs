@@ -4,17 +4,27 @@ use crate::{
     ffi,
     step::{Ask, Lengths, Step},
 };
-use oracle::books::{Books, Call, Consolidation, Deposit, Partial, Settings, Validator, SCALARS, SETTINGS};
+use oracle::{
+    books::{
+        Books, Call, Consolidation, Deposit, Partial, Settings, Validator, Withdrawal, SCALARS, SETTINGS,
+    },
+    engine::Assignment,
+};
 
 /// The scalars of the books, then the four counts.
 pub const NUMBERS: usize = SCALARS + 4;
-/// Words or bytes of a record in each table: identities, validators, deposits, partials, consolidations.
-pub const IDENTITY: usize = 80;
+/// Bytes of a key, of credentials, and of both.
+pub const KEY: usize = 48;
+const CREDENTIALS: usize = 32;
+pub const IDENTITY: usize = KEY + CREDENTIALS;
+/// Words of a record in each table: validators, deposits, partials, consolidations.
 pub const WIDTHS: [usize; 4] = [7, 2, 3, 2];
-/// The registry's tables are laid out by columns: keys and credentials, and seven columns of words.
-pub const IDENTITY_COLUMNS: [usize; 2] = [48, 32];
-pub const VALIDATOR_COLUMNS: [usize; 7] = [1; 7];
 
+/// The lengths of the buffers: settings, scalars, identities, then the four tables.
+pub type BufferLengths = [usize; 7];
+
+/// The registry is laid out by columns: all keys, then all credentials, in `identities`; in the first table one column
+/// after the other, each with room for every validator. Words behind the last whole column are in no record.
 #[derive(Clone, PartialEq)]
 pub struct Lent {
     pub settings: Vec<u64>,
@@ -34,6 +44,8 @@ pub struct Given {
     pub words: Vec<u64>,
     /// the addresses of an expected list, or a file
     pub bytes: Vec<u8>,
+    /// what the library was only to read in the call's own buffers is as it was handed over
+    pub kept: bool,
 }
 
 /// What stands in lent numbers before a call.
@@ -44,7 +56,7 @@ fn narrow(value: u128) -> u64 {
     value.try_into().expect("books of 64-bit numbers")
 }
 
-pub fn validator_words(one: &Validator) -> [u64; 7] {
+fn validator_words(one: &Validator) -> [u64; 7] {
     [
         one.slashed as u64,
         narrow(one.effective),
@@ -56,95 +68,89 @@ pub fn validator_words(one: &Validator) -> [u64; 7] {
     ]
 }
 
-pub fn deposit_words(one: &Deposit) -> [u64; 2] {
-    [narrow(one.index), narrow(one.amount)]
+fn scalar_words(books: &Books) -> Vec<u64> {
+    let lengths = record_counts(books).map(|length| length as u64);
+    books.scalars.iter().map(|&value| narrow(value)).chain(lengths).collect()
 }
 
-pub fn partial_words(one: &Partial) -> [u64; 3] {
-    [narrow(one.index), narrow(one.amount), narrow(one.epoch)]
+/// How many validators, deposits, partials and consolidations there are.
+pub fn record_counts(books: &Books) -> [usize; 4] {
+    [books.validators.len(), books.deposits.len(), books.partials.len(), books.consolidations.len()]
 }
 
-pub fn consolidation_words(one: &Consolidation) -> [u64; 2] {
-    [narrow(one.source), narrow(one.target)]
+/// The least rooms of the tables: the limits, or the counts where they are above.
+fn least_rooms(books: &Books) -> [usize; 4] {
+    let counts = record_counts(books);
+    std::array::from_fn(|table| {
+        (books.settings[SETTINGS - 4 + table].min(65_536) as usize).max(counts[table])
+    })
 }
 
-pub fn scalar_words(books: &Books) -> Vec<u64> {
-    let lengths =
-        [books.validators.len(), books.deposits.len(), books.partials.len(), books.consolidations.len()];
-    books.scalars.iter().map(|&value| narrow(value)).chain(lengths.map(|length| length as u64)).collect()
+/// The lengths of buffers with just the room that the limits ask for.
+pub fn least_lengths(books: &Books) -> BufferLengths {
+    let rooms = least_rooms(books);
+    let words: [usize; 4] = std::array::from_fn(|table| WIDTHS[table] * rooms[table]);
+    [SETTINGS, NUMBERS, IDENTITY * rooms[0], words[0], words[1], words[2], words[3]]
 }
 
-/// The places of a table of columns in the order of its records, then those behind the columns.
-fn places<'a>(length: usize, columns: &'a [usize]) -> impl Iterator<Item = usize> + 'a {
-    let width: usize = columns.iter().sum();
-    let room = length / width;
-    let records = (0..room).flat_map(move |i| {
-        columns.iter().scan(0, move |before, &column| {
-            let start = *before * room + column * i;
-            *before += column;
-            Some(start..start + column)
-        })
-    });
-    records.flatten().chain(width * room..length)
-}
-
-/// A table of columns, record by record.
-pub fn by_record<W: Copy>(table: &[W], columns: &[usize]) -> Vec<W> {
-    places(table.len(), columns).map(|place| table[place]).collect()
-}
-
-/// The table of columns that holds these records.
-fn by_column<W: Copy + Default>(records: &[W], columns: &[usize]) -> Vec<W> {
-    let mut table = vec![W::default(); records.len()];
-    places(records.len(), columns).zip(records).for_each(|(place, &word)| table[place] = word);
-    table
+/// The least lengths, at times more: room for a few more records, and a part of a record behind them.
+pub fn random_lengths(books: &Books, dice: &mut Dice) -> BufferLengths {
+    let rooms = least_rooms(books).map(|room| room + dice.pick(&[0, 0, 1, 3]));
+    let settings = SETTINGS + dice.below(3) as usize;
+    let scalars = NUMBERS + dice.below(3) as usize;
+    let identities = IDENTITY * rooms[0] + dice.below(IDENTITY as u64) as usize;
+    let words: [usize; 4] =
+        std::array::from_fn(|table| WIDTHS[table] * rooms[table] + dice.below(WIDTHS[table] as u64) as usize);
+    [settings, scalars, identities, words[0], words[1], words[2], words[3]]
 }
 
 impl Lent {
-    /// The books in buffers with room for their limits, and at times for more, random words past their records.
-    pub fn of(books: &Books, dice: &mut Dice) -> Lent {
-        let limits: [u64; 4] = books.settings[SETTINGS - 4..].try_into().expect("four limits");
-        let mut room = |position: usize, length: usize| {
-            let more = dice.pick(&[0, 0, 1, 3]);
-            (limits[position].min(65_536) as usize).max(length) + more
-        };
-        let rooms = [
-            room(0, books.validators.len()),
-            room(1, books.deposits.len()),
-            room(2, books.partials.len()),
-            room(3, books.consolidations.len()),
-        ];
-        let mut settings = books.settings.to_vec();
-        let mut scalars = scalar_words(books);
-        (0..dice.below(3)).for_each(|_| settings.push(dice.next()));
-        (0..dice.below(3)).for_each(|_| scalars.push(dice.next()));
-        let mut identities: Vec<u8> =
-            books.validators.iter().flat_map(|one| one.key.into_iter().chain(one.credentials)).collect();
-        let mut tables: [Vec<u64>; 4] = [
-            books.validators.iter().flat_map(validator_words).collect(),
-            books.deposits.iter().flat_map(deposit_words).collect(),
-            books.partials.iter().flat_map(partial_words).collect(),
-            books.consolidations.iter().flat_map(consolidation_words).collect(),
-        ];
-        let bytes = IDENTITY * rooms[0] + dice.below(IDENTITY as u64) as usize;
-        identities.resize_with(bytes, || dice.next() as u8);
-        for (table, (width, room)) in tables.iter_mut().zip(WIDTHS.into_iter().zip(rooms)) {
-            let words = width * room + dice.below(width as u64) as usize;
-            table.resize_with(words, || dice.next());
-        }
-        identities = by_column(&identities, &IDENTITY_COLUMNS);
-        tables[0] = by_column(&tables[0], &VALIDATOR_COLUMNS);
+    /// The books in buffers of these lengths; `past` gives what stands where no record does. No buffer has room behind
+    /// its length, so that a tool that watches memory sees every step outside it.
+    pub fn of(books: &Books, lengths: BufferLengths, mut past: impl FnMut() -> u64) -> Lent {
+        let [settings, scalars, identities, tables @ ..] = lengths;
+        let mut words = |length: usize| (0..length).map(|_| past()).collect::<Vec<u64>>();
+        let (settings, scalars) = (words(settings), words(scalars));
+        let tables = tables.map(&mut words);
+        let identities = (0..identities).map(|_| past() as u8).collect();
         let mut lent = Lent { settings, scalars, identities, tables };
-        lent.shrink();
+        lent.store(books);
         lent
     }
 
-    /// No room behind a buffer, so that a tool that watches memory sees every step outside it.
-    fn shrink(&mut self) {
-        self.settings.shrink_to_fit();
-        self.scalars.shrink_to_fit();
-        self.identities.shrink_to_fit();
-        self.tables.iter_mut().for_each(Vec::shrink_to_fit);
+    pub fn lengths(&self) -> BufferLengths {
+        let [validators, deposits, partials, consolidations] = self.tables.each_ref().map(Vec::len);
+        let (settings, scalars) = (self.settings.len(), self.scalars.len());
+        [settings, scalars, self.identities.len(), validators, deposits, partials, consolidations]
+    }
+
+    /// Writes the books over what the buffers hold; every word that belongs to no record stays.
+    pub fn store(&mut self, books: &Books) {
+        self.settings[..SETTINGS].copy_from_slice(&books.settings);
+        self.scalars[..NUMBERS].copy_from_slice(&scalar_words(books));
+        let keys = KEY * (self.identities.len() / IDENTITY);
+        for (i, one) in books.validators.iter().enumerate() {
+            self.identities[KEY * i..][..KEY].copy_from_slice(&one.key);
+            self.identities[keys + CREDENTIALS * i..][..CREDENTIALS].copy_from_slice(&one.credentials);
+        }
+        self.store_table(0, &books.validators, validator_words);
+        self.store_table(1, &books.deposits, |one| [one.index, one.amount].map(narrow));
+        self.store_table(2, &books.partials, |one| [one.index, one.amount, one.epoch].map(narrow));
+        self.store_table(3, &books.consolidations, |one| [one.source, one.target].map(narrow));
+    }
+
+    fn store_table<T, const N: usize>(
+        &mut self,
+        table: usize,
+        records: &[T],
+        words: impl Fn(&T) -> [u64; N],
+    ) {
+        for (i, record) in records.iter().enumerate() {
+            for (k, word) in words(record).into_iter().enumerate() {
+                let place = self.place(table, i, k);
+                self.tables[table][place] = word;
+            }
+        }
     }
 
     /// The settings that the library is to see: a missing one is 0.
@@ -177,40 +183,43 @@ impl Lent {
         if (0..4).any(|table| self.count(table) > rooms[table] as u64) {
             return None;
         }
-        let records =
-            |table: usize| self.tables[table].chunks_exact(WIDTHS[table]).take(self.count(table) as usize);
-        let words = by_record(&self.tables[0], &VALIDATOR_COLUMNS);
-        let validators = || words.chunks_exact(WIDTHS[0]).take(self.count(0) as usize);
-        if validators().any(|words| words[0] > 1) {
+        let word = |table: usize, i: u64, k: usize| self.tables[table][self.place(table, i as usize, k)];
+        let wide = |table: usize, i: u64, k: usize| u128::from(word(table, i, k));
+        if (0..self.count(0)).any(|i| word(0, i, 0) > 1) {
             return None;
         }
-        let identities = by_record(&self.identities, &IDENTITY_COLUMNS);
         Some(Books {
             settings: self.settings(),
             scalars: std::array::from_fn(|position| self.scalars[position].into()),
-            validators: identities
-                .chunks_exact(IDENTITY)
-                .zip(validators())
-                .map(|(id, w)| Validator {
-                    key: id[..48].try_into().expect("a key"),
-                    credentials: id[48..].try_into().expect("credentials"),
-                    slashed: w[0] == 1,
-                    effective: w[1].into(),
-                    eligibility: w[2].into(),
-                    activation: w[3].into(),
-                    exit: w[4].into(),
-                    withdrawable: w[5].into(),
-                    balance: w[6].into(),
-                })
+            validators: (0..self.count(0)).map(|i| self.validator(i as usize)).collect(),
+            deposits: (0..self.count(1))
+                .map(|i| Deposit { index: wide(1, i, 0), amount: wide(1, i, 1) })
                 .collect(),
-            deposits: records(1).map(|w| Deposit { index: w[0].into(), amount: w[1].into() }).collect(),
-            partials: records(2)
-                .map(|w| Partial { index: w[0].into(), amount: w[1].into(), epoch: w[2].into() })
+            partials: (0..self.count(2))
+                .map(|i| Partial { index: wide(2, i, 0), amount: wide(2, i, 1), epoch: wide(2, i, 2) })
                 .collect(),
-            consolidations: records(3)
-                .map(|w| Consolidation { source: w[0].into(), target: w[1].into() })
+            consolidations: (0..self.count(3))
+                .map(|i| Consolidation { source: wide(3, i, 0), target: wide(3, i, 1) })
                 .collect(),
         })
+    }
+
+    fn validator(&self, i: usize) -> Validator {
+        let keys = KEY * (self.identities.len() / IDENTITY);
+        let word = |k: usize| self.tables[0][self.place(0, i, k)];
+        Validator {
+            key: self.identities[KEY * i..][..KEY].try_into().expect("a key"),
+            credentials: self.identities[keys + CREDENTIALS * i..][..CREDENTIALS]
+                .try_into()
+                .expect("credentials"),
+            slashed: word(0) == 1,
+            effective: word(1).into(),
+            eligibility: word(2).into(),
+            activation: word(3).into(),
+            exit: word(4).into(),
+            withdrawable: word(5).into(),
+            balance: word(6).into(),
+        }
     }
 }
 
@@ -243,63 +252,92 @@ macro_rules! call {
     }};
 }
 
-/// The first bytes, or more of them than there are.
-fn of_length(bytes: &[u8], length: usize) -> Box<[u8]> {
-    bytes.iter().copied().chain(std::iter::repeat(BYTE)).take(length).collect()
+/// A buffer of the call's own that the library is only to read, and what it held before.
+struct Own<T> {
+    lent: Box<[T]>,
+    copy: Box<[T]>,
 }
 
-/// One call of the library.
+impl<T: Copy + PartialEq> Own<T> {
+    /// The first values, or more of them than there are.
+    fn new(values: &[T], length: usize, more: T) -> Own<T> {
+        let lent: Box<[T]> = values.iter().copied().chain(std::iter::repeat(more)).take(length).collect();
+        Own { copy: lent.clone(), lent }
+    }
+
+    /// From a pointer that may be written through, so that a change would be seen.
+    fn pointer(&mut self) -> *const T {
+        self.lent.as_mut_ptr()
+    }
+
+    fn len(&self) -> usize {
+        self.lent.len()
+    }
+
+    fn kept(&self) -> bool {
+        self.lent == self.copy
+    }
+}
+
+fn own_bytes(bytes: &[u8], length: usize) -> Own<u8> {
+    Own::new(bytes, length, BYTE)
+}
+
+/// One call of the library. The numbers for results are on the heap, each by itself, where a tool that watches memory
+/// sees a step past them.
 pub fn call(lent: &mut Lent, step: &Step) -> Given {
-    let Lengths { key, credentials, address, records, addresses } = step.lengths;
     let (words, bytes) = match step.ask {
         Ask::Write(room) => (0, room),
         Ask::CarryOut(_, room) => (room, 0),
-        _ => (records, addresses),
+        _ => (step.lengths.records, step.lengths.addresses),
     };
-    let mut given =
-        Given { number: 0, numbers: [FILLER; 2], words: vec![FILLER; words], bytes: vec![BYTE; bytes] };
-    let [first, second] = &mut given.numbers;
-    given.number = match &step.ask {
-        Ask::Call(of_file) => call_of_file(lent, of_file, key, credentials, address, records, addresses),
-        Ask::Total => call!(solarbasil_total, lent, first),
-        Ask::Expected => call!(
-            solarbasil_get_expected_withdrawals,
-            lent,
-            given.words.as_mut_ptr(),
-            words,
-            given.bytes.as_mut_ptr(),
-            bytes,
-            first,
-            second,
-        ),
+    let (mut words, mut bytes) = (vec![FILLER; words], vec![BYTE; bytes]);
+    let [mut first, mut second] = [Box::new(FILLER), Box::new(FILLER)];
+    let (number, kept) = match &step.ask {
+        Ask::Call(of_file) => call_of_file(lent, of_file, step.lengths),
+        Ask::Total => (call!(solarbasil_total, lent, &mut *first), true),
+        Ask::Expected => (expected(lent, &mut words, &mut bytes, &mut first, &mut second), true),
         Ask::Read(file) => read(lent, &file.0),
-        Ask::Write(_) => call!(solarbasil_write_books, lent, given.bytes.as_mut_ptr(), bytes, first),
-        Ask::CarryOut(file, _) => {
-            let file = of_length(&file.0, file.0.len());
-            call!(
-                solarbasil_carry_out,
-                lent,
-                file.as_ptr(),
-                file.len(),
-                given.words.as_mut_ptr(),
-                words,
-                first,
-            )
+        Ask::Write(_) => {
+            (call!(solarbasil_write_books, lent, bytes.as_mut_ptr(), bytes.len(), &mut *first), true)
         }
-        // Safety: two numbers of our own.
-        Ask::Assignment(g) => unsafe {
-            ffi::solarbasil_epoch_assignment(
-                g.left,
-                g.earliest,
-                g.activation_exit,
-                g.churn,
-                g.amount,
-                first,
-                second,
-            )
-        },
+        Ask::CarryOut(file, _) => carry_out(lent, &file.0, &mut words, &mut first),
+        Ask::Assignment(given) => (assignment(given, &mut first, &mut second), true),
     };
-    given
+    Given { number, numbers: [*first, *second], words, bytes, kept }
+}
+
+fn expected(lent: &mut Lent, words: &mut [u64], bytes: &mut [u8], count: &mut u64, partials: &mut u64) -> u8 {
+    call!(
+        solarbasil_get_expected_withdrawals,
+        lent,
+        words.as_mut_ptr(),
+        words.len(),
+        bytes.as_mut_ptr(),
+        bytes.len(),
+        count,
+        partials,
+    )
+}
+
+fn carry_out(lent: &mut Lent, file: &[u8], words: &mut [u64], count: &mut u64) -> (u8, bool) {
+    let mut file = own_bytes(file, file.len());
+    let number = call!(
+        solarbasil_carry_out,
+        lent,
+        file.pointer(),
+        file.len(),
+        words.as_mut_ptr(),
+        words.len(),
+        count,
+    );
+    (number, file.kept())
+}
+
+fn assignment(given: &Assignment, left: &mut u64, epoch: &mut u64) -> u8 {
+    let Assignment { left: before, earliest, activation_exit, churn, amount } = *given;
+    // Safety: two numbers of our own.
+    unsafe { ffi::solarbasil_epoch_assignment(before, earliest, activation_exit, churn, amount, left, epoch) }
 }
 
 /// The buffers after the calls of a file, each made by itself.
@@ -307,17 +345,18 @@ pub fn one_by_one(lent: &Lent, calls: &[Call]) -> Lent {
     let mut lent = lent.clone();
     for call in calls {
         let listed = if let Call::Withdrawals(list) = call { list.len() } else { 0 };
-        call_of_file(&mut lent, call, 48, 32, 20, 3 * listed, 20 * listed);
+        let lengths = Lengths { records: 3 * listed, addresses: 20 * listed, ..Lengths::RIGHT };
+        call_of_file(&mut lent, call, lengths);
     }
     lent
 }
 
 /// As `call!`, but that the settings may change too.
-fn read(lent: &mut Lent, file: &[u8]) -> u8 {
+fn read(lent: &mut Lent, file: &[u8]) -> (u8, bool) {
     let Lent { settings, scalars, identities, tables: [validators, deposits, partials, consolidations] } =
         lent;
-    let file = of_length(file, file.len());
-    unsafe {
+    let mut file = own_bytes(file, file.len());
+    let number = unsafe {
         ffi::solarbasil_read_books(
             settings.as_mut_ptr(),
             settings.len(),
@@ -333,76 +372,92 @@ fn read(lent: &mut Lent, file: &[u8]) -> u8 {
             partials.len(),
             consolidations.as_mut_ptr(),
             consolidations.len(),
-            file.as_ptr(),
+            file.pointer(),
             file.len(),
         )
-    }
+    };
+    (number, file.kept())
 }
 
-fn call_of_file(
-    lent: &mut Lent,
-    call: &Call,
-    key_length: usize,
-    credentials_length: usize,
-    address_length: usize,
-    records: usize,
-    addresses: usize,
-) -> u8 {
-    match call {
+/// The answer, and whether the call's own buffers were kept.
+fn call_of_file(lent: &mut Lent, call: &Call, lengths: Lengths) -> (u8, bool) {
+    let number = match call {
+        Call::Receipt { key, credentials, amount, index, good } => {
+            return receipt(lent, (key, credentials), (*amount, *index, *good), lengths)
+        }
+        Call::Request { address, key, amount } => return request(lent, address, key, *amount, lengths),
+        Call::Withdrawals(list) => return withdrawals(lent, list, lengths),
         Call::Reward { validator, amount } => call!(solarbasil_reward, lent, *validator, *amount),
         Call::Penalty { validator, amount } => call!(solarbasil_penalty, lent, *validator, *amount),
-        Call::Receipt { key, credentials, amount, index, good } => {
-            let (key, credentials) = (of_length(key, key_length), of_length(credentials, credentials_length));
-            call!(
-                solarbasil_process_deposit_receipt,
-                lent,
-                key.as_ptr(),
-                key.len(),
-                credentials.as_ptr(),
-                credentials.len(),
-                *amount,
-                *index,
-                *good,
-            )
-        }
         Call::Exit { validator, epoch, good } => {
             call!(solarbasil_process_voluntary_exit, lent, *validator, *epoch, *good)
-        }
-        Call::Request { address, key, amount } => {
-            let (address, key) = (of_length(address, address_length), of_length(key, key_length));
-            call!(
-                solarbasil_process_execution_layer_withdrawal_request,
-                lent,
-                address.as_ptr(),
-                address.len(),
-                key.as_ptr(),
-                key.len(),
-                *amount,
-            )
         }
         Call::Consolidation { source, target, epoch, good } => {
             call!(solarbasil_process_consolidation, lent, *source, *target, *epoch, *good)
         }
         Call::Turn => call!(solarbasil_turn, lent),
-        Call::Withdrawals(list) => {
-            let mut words: Vec<u64> = list.iter().flat_map(|w| [w.index, w.validator, w.amount]).collect();
-            let bytes: Vec<u8> = list.iter().flat_map(|w| w.address).collect();
-            words.resize(records, FILLER);
-            words.shrink_to_fit();
-            let bytes = of_length(&bytes, addresses);
-            let count = list.len() as u64;
-            call!(
-                solarbasil_process_withdrawals,
-                lent,
-                words.as_ptr(),
-                words.len(),
-                bytes.as_ptr(),
-                bytes.len(),
-                count,
-            )
-        }
         Call::DepositStep => call!(solarbasil_process_pending_balance_deposits, lent),
         Call::ConsolidationStep => call!(solarbasil_process_pending_consolidations, lent),
         Call::EffectiveStep => call!(solarbasil_process_effective_balance_updates, lent),
-    }
+    };
+    (number, true)
+}
+
+fn receipt(
+    lent: &mut Lent,
+    (key, credentials): (&[u8; KEY], &[u8; CREDENTIALS]),
+    (amount, index, good): (u64, u64, bool),
+    lengths: Lengths,
+) -> (u8, bool) {
+    let (mut key, mut credentials) =
+        (own_bytes(key, lengths.key), own_bytes(credentials, lengths.credentials));
+    let number = call!(
+        solarbasil_process_deposit_receipt,
+        lent,
+        key.pointer(),
+        key.len(),
+        credentials.pointer(),
+        credentials.len(),
+        amount,
+        index,
+        good,
+    );
+    (number, key.kept() && credentials.kept())
+}
+
+fn request(
+    lent: &mut Lent,
+    address: &[u8; 20],
+    key: &[u8; KEY],
+    amount: u64,
+    lengths: Lengths,
+) -> (u8, bool) {
+    let (mut address, mut key) = (own_bytes(address, lengths.address), own_bytes(key, lengths.key));
+    let number = call!(
+        solarbasil_process_execution_layer_withdrawal_request,
+        lent,
+        address.pointer(),
+        address.len(),
+        key.pointer(),
+        key.len(),
+        amount,
+    );
+    (number, address.kept() && key.kept())
+}
+
+fn withdrawals(lent: &mut Lent, list: &[Withdrawal], lengths: Lengths) -> (u8, bool) {
+    let words: Vec<u64> = list.iter().flat_map(|w| [w.index, w.validator, w.amount]).collect();
+    let bytes: Vec<u8> = list.iter().flat_map(|w| w.address).collect();
+    let mut words = Own::new(&words, lengths.records, FILLER);
+    let mut bytes = own_bytes(&bytes, lengths.addresses);
+    let number = call!(
+        solarbasil_process_withdrawals,
+        lent,
+        words.pointer(),
+        words.len(),
+        bytes.pointer(),
+        bytes.len(),
+        list.len() as u64,
+    );
+    (number, words.kept() && bytes.kept())
 }

@@ -1,5 +1,5 @@
-//! Random calls, each carried out by the static library and by the mended Rust in one process; answers, results and
-//! every word of the lent buffers are compared after each.
+//! Random calls, each carried out by the static library and by the mended Rust in one process. After each the answers,
+//! the results and every word of the lent buffers are compared; the call's own buffers must be as they were.
 //!
 //!     compare COUNT SEED [--small] [--case N]
 //!
@@ -94,7 +94,7 @@ fn run_case(options: &Options, case: u64, most: u64, tally: &mut Tally) {
         *tally.sizes.entry(position.books.validators.len().ilog2()).or_default() += 1;
         steps.push(step.clone());
         match position.take(&step) {
-            Ok(number) => *tally.answers.entry((step.name(), number)).or_default() += 1,
+            Ok(taken) => *tally.answers.entry((step.name(), taken.number)).or_default() += 1,
             Err(difference) => {
                 tally.differences += 1;
                 println!("DIFFERENCE: seed {} case {case} call {}: {difference}", options.seed, steps.len());

@@ -1,7 +1,7 @@
 //! Random books and random steps. A case depends on its seed and its number alone.
 use crate::{
     dice::Dice,
-    lent::{Lent, NUMBERS, WIDTHS},
+    lent::{random_lengths, record_counts, Lent, NUMBERS, WIDTHS},
     step::{Ask, File, Lengths, Spoil, Step},
 };
 use oracle::{
@@ -164,8 +164,10 @@ impl Maker {
         }
     }
 
+    /// The books in buffers of random lengths, random words past their records.
     pub fn lend(&mut self, books: &Books) -> Lent {
-        Lent::of(books, &mut self.dice)
+        let lengths = random_lengths(books, &mut self.dice);
+        Lent::of(books, lengths, || self.dice.next())
     }
 
     // ---- opening books
@@ -385,11 +387,7 @@ impl Maker {
             99 => self.calls_file(books),
             _ => Ask::Call(self.call(books, code)),
         };
-        let mut lengths = Lengths::RIGHT;
-        if let Ask::Call(Call::Withdrawals(list)) = &ask {
-            lengths.records = 3 * list.len();
-            lengths.addresses = 20 * list.len();
-        }
+        let Step { ask, mut lengths, .. } = Step::plain(ask);
         lengths.records += self.dice.pick(&[0, 0, 1, 5]);
         lengths.addresses += self.dice.pick(&[0, 0, 1, 5]);
         // The bare assignment looks at no books.
@@ -416,8 +414,7 @@ impl Maker {
         let odd = self.odd();
         let dice = &mut self.dice;
         let table = dice.below(4) as usize;
-        let records =
-            [books.validators.len(), books.deposits.len(), books.partials.len(), books.consolidations.len()];
+        let records = record_counts(books);
         match dice.below(10) {
             0..=1 => Spoil::Setting(dice.below(19) as usize, odd),
             2 => Spoil::SettingsLength(dice.below(19) as usize),

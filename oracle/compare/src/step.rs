@@ -37,7 +37,7 @@ impl fmt::Debug for File {
 
 /// Lengths of what a call is handed besides the books: bytes of a key, credentials and an address, numbers and bytes
 /// of a list of withdrawals.
-#[derive(Clone, Copy, Debug)]
+#[derive(Clone, Copy, Debug, PartialEq)]
 pub struct Lengths {
     pub key: usize,
     pub credentials: usize,
@@ -52,7 +52,7 @@ impl Lengths {
 }
 
 /// A change of the lent buffers that mostly makes them unsound.
-#[derive(Clone, Copy, Debug)]
+#[derive(Clone, Copy, Debug, PartialEq)]
 pub enum Spoil {
     Setting(usize, u64),
     SettingsLength(usize),
@@ -66,17 +66,22 @@ pub enum Spoil {
 }
 
 impl Spoil {
+    /// A place that these buffers do not have stays as it is.
     pub fn apply(self, lent: &mut Lent) {
         match self {
-            Spoil::Setting(position, value) => lent.settings[position] = value,
+            Spoil::Setting(position, value) => set(&mut lent.settings, position, value),
             Spoil::SettingsLength(length) => cut(&mut lent.settings, length),
-            Spoil::Scalar(position, value) => lent.scalars[position] = value,
+            Spoil::Scalar(position, value) => set(&mut lent.scalars, position, value),
             Spoil::ScalarsLength(length) => cut(&mut lent.scalars, length),
             Spoil::IdentitiesLength(length) => cut(&mut lent.identities, length),
             Spoil::TableLength(table, length) => cut(&mut lent.tables[table], length),
-            Spoil::Word(table, position, value) => lent.tables[table][position] = value,
+            Spoil::Word(table, position, value) => set(&mut lent.tables[table], position, value),
         }
     }
+}
+
+fn set(buffer: &mut [u64], position: usize, value: u64) {
+    buffer.get_mut(position).into_iter().for_each(|word| *word = value);
 }
 
 fn cut<T>(buffer: &mut Vec<T>, length: usize) {
@@ -91,20 +96,42 @@ pub struct Step {
     pub lengths: Lengths,
 }
 
+/// The name of the call with this code.
+pub fn name_of_code(code: u64) -> &'static str {
+    match code {
+        1 => "reward",
+        2 => "penalty",
+        3 => "receipt",
+        4 => "exit",
+        5 => "request",
+        6 => "consolidation",
+        7 => "turn",
+        8 => "withdrawals",
+        91 => "deposit step",
+        92 => "consolidation step",
+        _ => "effective step",
+    }
+}
+
 impl Step {
+    /// A call with all that it needs, on unspoiled books.
+    pub fn plain(ask: Ask) -> Step {
+        let mut lengths = Lengths::RIGHT;
+        if let Ask::Call(Call::Withdrawals(list)) = &ask {
+            lengths.records = 3 * list.len();
+            lengths.addresses = 20 * list.len();
+        }
+        Step { spoil: None, ask, lengths }
+    }
+
+    /// As `plain` makes it.
+    pub fn is_plain(&self) -> bool {
+        self.spoil.is_none() && self.lengths == Step::plain(self.ask.clone()).lengths
+    }
+
     pub fn name(&self) -> &'static str {
         match &self.ask {
-            Ask::Call(Call::Reward { .. }) => "reward",
-            Ask::Call(Call::Penalty { .. }) => "penalty",
-            Ask::Call(Call::Receipt { .. }) => "receipt",
-            Ask::Call(Call::Exit { .. }) => "exit",
-            Ask::Call(Call::Request { .. }) => "request",
-            Ask::Call(Call::Consolidation { .. }) => "consolidation",
-            Ask::Call(Call::Turn) => "turn",
-            Ask::Call(Call::Withdrawals(_)) => "withdrawals",
-            Ask::Call(Call::DepositStep) => "deposit step",
-            Ask::Call(Call::ConsolidationStep) => "consolidation step",
-            Ask::Call(Call::EffectiveStep) => "effective step",
+            Ask::Call(call) => name_of_code(call.code().into()),
             Ask::Expected => "expected list",
             Ask::Total => "total",
             Ask::Assignment(_) => "assignment",
