@@ -280,12 +280,16 @@ fn results_difference(given: &Given, want: &Want) -> Option<String> {
 mod tests {
     //! Each part of what the library leaves is really compared.
     use super::*;
-    use crate::{lent::WIDTHS, maker::Maker, step::Lengths};
+    use crate::{
+        lent::WIDTHS,
+        maker::{Maker, Sizes},
+        step::Lengths,
+    };
 
     /// Buffers before and after a done turn, what was given and what is wanted.
     fn turned() -> (Lent, Lent, Given, Want) {
         for case in 0.. {
-            let (mut maker, books) = Maker::open(1, case, true);
+            let (mut maker, books) = Maker::open(1, case, Sizes::Small);
             let before = maker.lend(&books);
             let step = Step { spoil: None, ask: Ask::Call(Call::Turn), lengths: Lengths::RIGHT };
             let want = wanted(&before, Some(&books), &step);

@@ -1,9 +1,10 @@
 //! Random calls, each carried out by the static library and by the mended Rust in one process. After each the answers,
 //! the results and every word of the lent buffers are compared; the call's own buffers must be as they were.
 //!
-//!     compare COUNT SEED [--small] [--case N]
+//!     compare COUNT SEED [--small | --large] [--case N]
 //!
-//! `--small`: books of at most twelve validators alone. `--case N`: that case of the seed alone.
+//! `--small`: openings of at most twelve validators alone. `--large`: of 4,096 to 65,536 alone. `--case N`: that case
+//! of the seed alone.
 mod both;
 mod dice;
 #[path = "../../../interface/rust/src/ffi.rs"]
@@ -13,7 +14,7 @@ mod maker;
 mod step;
 
 use both::Position;
-use maker::Maker;
+use maker::{Maker, Sizes};
 use std::{collections::BTreeMap, env, process::exit};
 use step::Step;
 
@@ -23,22 +24,23 @@ const MOST_DIFFERENCES: u64 = 10;
 struct Options {
     count: u64,
     seed: u64,
-    small: bool,
+    sizes: Sizes,
     case: Option<u64>,
 }
 
 fn usage() -> ! {
-    eprintln!("compare COUNT SEED [--small] [--case N]");
+    eprintln!("compare COUNT SEED [--small | --large] [--case N]");
     exit(2)
 }
 
 fn options() -> Options {
     let mut numbers = vec![];
-    let mut options = Options { count: 0, seed: 0, small: false, case: None };
+    let mut options = Options { count: 0, seed: 0, sizes: Sizes::All, case: None };
     let mut arguments = env::args().skip(1);
     while let Some(argument) = arguments.next() {
         match argument.as_str() {
-            "--small" => options.small = true,
+            "--small" => options.sizes = Sizes::Small,
+            "--large" => options.sizes = Sizes::Large,
             "--case" => {
                 let number = arguments.next().and_then(|text| text.parse().ok());
                 options.case = Some(number.unwrap_or_else(|| usage()));
@@ -83,7 +85,7 @@ fn main() {
 
 /// One case, of at most so many calls.
 fn run_case(options: &Options, case: u64, most: u64, tally: &mut Tally) {
-    let (mut maker, books) = Maker::open(options.seed, case, options.small);
+    let (mut maker, books) = Maker::open(options.seed, case, options.sizes);
     let opening = Position { lent: maker.lend(&books), books };
     let mut position = opening.clone();
     let mut steps: Vec<Step> = vec![];

@@ -19,6 +19,16 @@ const TOP: u64 = 1 << 62;
 const MAINNET: [u64; 15] =
     [32 * G, 2048 * G, G, 128 * G, 256 * G, 65_536, 256, 256, 4, 4, 1, 5, 8, 16, 16_384];
 
+/// Which cases a run has.
+#[derive(Clone, Copy, PartialEq)]
+pub enum Sizes {
+    All,
+    /// openings of at most twelve validators
+    Small,
+    /// openings of 4,096 to 65,536 validators, mostly with long queues
+    Large,
+}
+
 /// How many validators a case has.
 #[derive(Clone, Copy, PartialEq)]
 enum Size {
@@ -26,16 +36,20 @@ enum Size {
     Hundreds,
     Thousands,
     Most,
+    /// of a run of large books alone
+    Large,
 }
 
-/// Which steps a case draws from: all of them, or mostly those that consolidate, queue or withdraw, or the files.
-const MIXES: [&[u32]; 6] = [
+/// Which steps a case draws from: all of them, or mostly those that consolidate, queue or withdraw, or the files, or
+/// the steps of a turn alone.
+const MIXES: [&[u32]; 7] = [
     &[1, 2, 3, 3, 4, 4, 5, 5, 6, 6, 7, 7, 8, 8, 91, 92, 93, 94, 95, 96, 97, 98, 99],
     &[97, 97, 98, 99, 99, 3, 5, 7],
     &[6, 6, 6, 6, 92, 92, 7, 3, 1, 4],
     &[3, 3, 3, 5, 6, 92, 7, 91],
     &[5, 5, 5, 7, 8, 8, 8, 94, 1, 4],
     &[4, 4, 4, 5, 6, 6, 6, 7],
+    &[91, 92, 93, 93, 94, 95, 96, 1, 2, 3],
 ];
 
 pub struct Maker {
@@ -132,18 +146,19 @@ fn credentials(prefix: u8, middle: u8, address: u8) -> [u8; 32] {
 
 impl Maker {
     /// The maker of a case, and the case's opening books.
-    pub fn open(seed: u64, case: u64, only_small: bool) -> (Maker, Books) {
+    pub fn open(seed: u64, case: u64, sizes: Sizes) -> (Maker, Books) {
         let mut dice = Dice::new(seed, case);
         let (chain, unit) = match dice.below(10) {
             0..=3 => (small_chain(&mut dice), 1),
             4..=5 => (extreme_chain(&mut dice), dice.pick(&[1, 1 << 40])),
             _ => (mainnet_chain(&mut dice), G),
         };
-        let size = match dice.below(1000) {
-            _ if only_small => Size::Few,
-            0..=3 => Size::Most,
-            4..=30 => Size::Thousands,
-            31..=230 => Size::Hundreds,
+        let size = match (sizes, dice.below(1000)) {
+            (Sizes::Small, _) => Size::Few,
+            (Sizes::Large, _) => Size::Large,
+            (_, 0..=9) => Size::Most,
+            (_, 10..=89) => Size::Thousands,
+            (_, 90..=449) => Size::Hundreds,
             _ => Size::Few,
         };
         let mix = dice.pick(&MIXES);
@@ -161,6 +176,7 @@ impl Maker {
             Size::Hundreds => self.dice.between(30, 80),
             Size::Thousands => self.dice.between(10, 30),
             Size::Most => self.dice.between(6, 14),
+            Size::Large => self.dice.between(20, 40),
         }
     }
 
@@ -179,10 +195,19 @@ impl Maker {
                 let most = dice.pick(&[1, 3, 6, 12]);
                 dice.between(1, most)
             }
-            Size::Hundreds => dice.between(13, 400),
+            Size::Hundreds => {
+                let most = dice.pick(&[40, 150, 400]);
+                dice.between(13, most)
+            }
             Size::Thousands => dice.between(401, 8_192),
             Size::Most if dice.chance(40) => 65_536,
             Size::Most => dice.between(8_193, 65_536),
+            Size::Large => match dice.below(10) {
+                0 => 65_536,
+                1..=2 => dice.between(16_384, 65_536),
+                3..=5 => dice.between(8_192, 16_384),
+                _ => dice.between(4_096, 8_192),
+            },
         }
     }
 
@@ -193,8 +218,10 @@ impl Maker {
             Size::Hundreds => dice.pick(&[8, 60, 500]),
             Size::Thousands => dice.pick(&[60, 2_000, 9_000]),
             Size::Most => dice.pick(&[100, 20_000, 65_536]),
+            Size::Large => dice.pick(&[600, 9_000, 9_000, 65_536]),
         };
-        dice.between(1, most).max(least)
+        let fewest = if self.size == Size::Large { most / 4 } else { 1 };
+        dice.between(fewest, most).max(least)
     }
 
     /// The length of a queue: empty, short, any, or full.
@@ -369,7 +396,7 @@ impl Maker {
             books.validators[one].balance += BOUND - books.total() - near;
         }
         let near = u128::from(self.dice.below(4));
-        if self.dice.chance(8) && !books.partials.is_empty() && books.partial_sum() + near < BOUND {
+        if self.dice.chance(12) && !books.partials.is_empty() && books.partial_sum() + near < BOUND {
             books.partials[0].amount += BOUND - books.partial_sum() - near;
         }
     }
@@ -501,6 +528,11 @@ impl Maker {
         if dice.chance(4) {
             return dice.pick(&[u64::MAX, count + 1, 1 << 32, count]);
         }
+        let queued = self.queued(books).filter(|_| self.dice.chance(12));
+        if let Some(index) = queued {
+            return index;
+        }
+        let dice = &mut self.dice;
         let now = books.scalars[scalar::EPOCH];
         let tries = dice.pick(&[1, 1, 12]);
         let mut index = dice.below(count);
@@ -512,6 +544,19 @@ impl Maker {
             index = dice.below(count);
         }
         index
+    }
+
+    /// A validator that a queue names.
+    fn queued(&mut self, books: &Books) -> Option<u64> {
+        let table = self.dice.between(1, 3) as usize;
+        let count = record_counts(books)[table];
+        let at = if count == 0 { return None } else { self.dice.below(count as u64) as usize };
+        let index = match table {
+            1 => books.deposits[at].index,
+            2 => books.partials[at].index,
+            _ => books.consolidations[at].target,
+        };
+        Some(index as u64)
     }
 
     fn call_amount(&mut self) -> u64 {
@@ -551,8 +596,11 @@ impl Maker {
         }
     }
 
-    /// A target: at times one with the address of the source.
+    /// A target: at times the source itself, at times one with its address.
     fn target(&mut self, books: &Books, source: u64) -> u64 {
+        if self.dice.chance(3) {
+            return source;
+        }
         let tries = self.dice.pick(&[1, 8, 8]);
         let mut target = self.index(books);
         for _ in 1..tries {
