@@ -5,6 +5,7 @@ use crate::{
     step::{Ask, File, Lengths, Spoil, Step},
 };
 use oracle::{
+    answer::{answer, Engine},
     books::{
         scalar, setting, Books, Call, Consolidation, Deposit, Partial, Settings, Validator, Withdrawal,
         BOUND, FAR,
@@ -13,6 +14,7 @@ use oracle::{
     file,
     fill::near_miss,
 };
+use std::borrow::Cow;
 
 const G: u64 = 1_000_000_000;
 const TOP: u64 = 1 << 62;
@@ -39,6 +41,9 @@ enum Size {
     /// of a run of large books alone
     Large,
 }
+
+/// Calls files at the limit of 9,999 calls are made of these codes.
+const LONG_FILES: [&[u32]; 4] = [&[7], &[1, 2], &[1, 2, 7], &[1, 2, 3, 4, 5, 6, 7, 8]];
 
 /// Which steps a case draws from: all of them, or mostly those that consolidate, queue or withdraw, or the files, or
 /// the steps of a turn alone.
@@ -487,15 +492,39 @@ impl Maker {
     }
 
     fn calls_file(&mut self, books: &Books) -> Ask {
-        let most = if self.size == Size::Few { 12 } else { 3 };
-        let calls: Vec<Call> = (0..self.dice.below(most + 1))
-            .map(|_| {
-                let code = self.dice.between(1, 8) as u32;
-                self.call(books, code)
-            })
-            .collect();
+        let (codes, count) = self.codes_of_file(books);
+        let calls = self.calls_in_turn(books, codes, count);
         let room = self.room(3 * calls.len());
         Ask::CarryOut(self.damaged(file::write_calls(&calls)), room)
+    }
+
+    /// The codes that a calls file draws from, and how many calls it has: at times as many as a file can hold, or one
+    /// more, where the books are small.
+    fn codes_of_file(&mut self, books: &Books) -> (&'static [u32], u64) {
+        let records: usize = record_counts(books).iter().sum();
+        if records <= 40 && self.dice.chance(1) {
+            return (self.dice.pick(&LONG_FILES), self.dice.pick(&[9_999, 9_999, 10_000]));
+        }
+        let most = match self.size {
+            Size::Few | Size::Hundreds => 12,
+            Size::Thousands | Size::Most | Size::Large => 4,
+        };
+        (&[1, 2, 3, 4, 5, 6, 7, 8], self.dice.below(most + 1))
+    }
+
+    /// Calls each of which is drawn for the books that those before it leave.
+    fn calls_in_turn(&mut self, books: &Books, codes: &[u32], count: u64) -> Vec<Call> {
+        let mut reached = Cow::Borrowed(books);
+        let mut calls = vec![];
+        for _ in 0..count {
+            let code = self.dice.pick(codes);
+            let call = self.call(&reached, code);
+            if let Some(after) = answer(Engine::Wide, &reached, &call, u64::MAX).after {
+                reached = Cow::Owned(after);
+            }
+            calls.push(call);
+        }
+        calls
     }
 
     /// At times cut, longer, or with a bit or a word changed, for some of these with an end word that fits.
