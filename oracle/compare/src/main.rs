@@ -12,11 +12,13 @@ mod ffi;
 mod lent;
 mod maker;
 mod step;
+mod tally;
 
 use both::Position;
 use maker::{Maker, Sizes};
-use std::{collections::BTreeMap, env, process::exit};
+use std::{env, process::exit};
 use step::Step;
+use tally::Tally;
 
 /// After so many differing cases a run ends.
 const MOST_DIFFERENCES: u64 = 10;
@@ -52,16 +54,6 @@ fn options() -> Options {
     Options { count, seed, ..options }
 }
 
-/// How often each call was answered with each number, and the books that were met.
-#[derive(Default)]
-struct Tally {
-    calls: u64,
-    cases: u64,
-    differences: u64,
-    answers: BTreeMap<(&'static str, u8), u64>,
-    sizes: BTreeMap<u32, u64>,
-}
-
 fn main() {
     both::hush();
     let options = options();
@@ -77,7 +69,7 @@ fn main() {
             }
         }
     }
-    print(&tally);
+    println!("{tally}");
     if tally.differences > 0 {
         exit(1);
     }
@@ -92,11 +84,11 @@ fn run_case(options: &Options, case: u64, most: u64, tally: &mut Tally) {
     tally.cases += 1;
     for _ in 0..maker.steps().min(most) {
         let step = maker.step(&position.books, &position.lent);
-        tally.calls += 1;
-        *tally.sizes.entry(position.books.validators.len().ilog2()).or_default() += 1;
+        let validators = position.books.validators.len();
+        tally.call(validators);
         steps.push(step.clone());
         match position.take(&step) {
-            Ok(taken) => *tally.answers.entry((step.name(), taken.number)).or_default() += 1,
+            Ok(taken) => tally.answer(validators, &step, &taken),
             Err(difference) => {
                 tally.differences += 1;
                 println!("DIFFERENCE: seed {} case {case} call {}: {difference}", options.seed, steps.len());
@@ -139,17 +131,4 @@ fn tell(opening: &Position, mut steps: Vec<Step>) {
     if let Some((_, difference)) = first_difference(opening, &steps) {
         println!("  last call: {difference}");
     }
-}
-
-fn print(tally: &Tally) {
-    println!("calls by validators at the call:");
-    for (&power, count) in &tally.sizes {
-        println!("{count:9}  {} to {}", 1u64 << power, ((2u64 << power) - 1).min(65_536));
-    }
-    println!("answers by call:");
-    for ((name, number), count) in &tally.answers {
-        println!("{count:9}  {name}: {number}");
-    }
-    println!("{} cases", tally.cases);
-    println!("{} calls, {} differences", tally.calls, tally.differences);
 }
