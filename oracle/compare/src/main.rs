@@ -1,134 +1,117 @@
 //! Random calls, each carried out by the static library and by the mended Rust in one process. After each the answers,
 //! the results and every word of the lent buffers are compared; the call's own buffers must be as they were.
-//!
-//!     compare COUNT SEED [--small | --large] [--case N]
-//!
-//! `--small`: openings of at most twelve validators alone. `--large`: of 4,096 to 65,536 alone. `--case N`: that case
-//! of the seed alone.
 mod both;
 mod dice;
 #[path = "../../../interface/rust/src/ffi.rs"]
 mod ffi;
+mod input;
 mod lent;
 mod maker;
+mod options;
+mod shrink;
 mod step;
 mod tally;
+mod text;
 
 use both::Position;
-use maker::{Maker, Sizes};
-use std::{env, process::exit};
-use step::Step;
+use input::Input;
+use maker::Maker;
+use options::{Mode, Options};
+use std::{path::Path, process::exit};
 use tally::Tally;
 
 /// After so many differing cases a run ends.
 const MOST_DIFFERENCES: u64 = 10;
 
-struct Options {
-    count: u64,
-    seed: u64,
-    sizes: Sizes,
-    case: Option<u64>,
-}
-
-fn usage() -> ! {
-    eprintln!("compare COUNT SEED [--small | --large] [--case N]");
-    exit(2)
-}
-
-fn options() -> Options {
-    let mut numbers = vec![];
-    let mut options = Options { count: 0, seed: 0, sizes: Sizes::All, case: None };
-    let mut arguments = env::args().skip(1);
-    while let Some(argument) = arguments.next() {
-        match argument.as_str() {
-            "--small" => options.sizes = Sizes::Small,
-            "--large" => options.sizes = Sizes::Large,
-            "--case" => {
-                let number = arguments.next().and_then(|text| text.parse().ok());
-                options.case = Some(number.unwrap_or_else(|| usage()));
-            }
-            text => numbers.push(text.parse().unwrap_or_else(|_| usage())),
-        }
-    }
-    let [count, seed] = numbers[..] else { usage() };
-    Options { count, seed, ..options }
-}
-
 fn main() {
     both::hush();
-    let options = options();
-    let mut tally = Tally::default();
-    match options.case {
-        Some(case) => run_case(&options, case, u64::MAX, &mut tally),
-        None => {
-            let mut case = 0;
-            while tally.calls < options.count && tally.differences < MOST_DIFFERENCES {
-                let left = options.count - tally.calls;
-                run_case(&options, case, left, &mut tally);
-                case += 1;
-            }
-        }
-    }
-    println!("{tally}");
-    if tally.differences > 0 {
+    let options = options::read();
+    let differences = match &options.mode {
+        Mode::Again(folder) => again(folder),
+        Mode::Random { count, seed, case } => random(&options, *count, *seed, *case),
+    };
+    if differences > 0 {
         exit(1);
     }
 }
 
+/// So many random calls, or one case.
+fn random(options: &Options, count: u64, seed: u64, case: Option<u64>) -> u64 {
+    let mut tally = Tally::default();
+    if let Some(case) = case {
+        run_case(options, (seed, case), u64::MAX, &mut tally);
+    } else {
+        while tally.calls < count && tally.differences < MOST_DIFFERENCES {
+            let left = count - tally.calls;
+            run_case(options, (seed, tally.cases), left, &mut tally);
+        }
+    }
+    println!("{tally}");
+    tally.differences
+}
+
 /// One case, of at most so many calls.
-fn run_case(options: &Options, case: u64, most: u64, tally: &mut Tally) {
-    let (mut maker, books) = Maker::open(options.seed, case, options.sizes);
-    let opening = Position { lent: maker.lend(&books), books };
-    let mut position = opening.clone();
-    let mut steps: Vec<Step> = vec![];
+fn run_case(options: &Options, (seed, case): (u64, u64), most: u64, tally: &mut Tally) {
+    let (mut maker, books) = Maker::open(seed, case, options.sizes);
+    let mut position = Position { lent: maker.lend(&books), books };
+    let mut input = Input { books: position.books.clone(), buffers: position.lent.lengths(), steps: vec![] };
     tally.cases += 1;
     for _ in 0..maker.steps().min(most) {
         let step = maker.step(&position.books, &position.lent);
         let validators = position.books.validators.len();
         tally.call(validators);
-        steps.push(step.clone());
+        input.steps.push(step.clone());
         match position.take(&step) {
             Ok(taken) => tally.answer(validators, &step, &taken),
             Err(difference) => {
                 tally.differences += 1;
-                println!("DIFFERENCE: seed {} case {case} call {}: {difference}", options.seed, steps.len());
-                tell(&opening, steps);
+                println!("DIFFERENCE: seed {seed} case {case} call {}: {difference}", input.steps.len());
+                tell(input, &options.out.join(format!("{seed}-{case}")));
                 return;
             }
         }
     }
 }
 
-/// The call at which a list of steps first differs, and how.
-fn first_difference(opening: &Position, steps: &[Step]) -> Option<(usize, String)> {
-    let mut position = opening.clone();
-    for (number, step) in steps.iter().enumerate() {
-        if let Err(difference) = position.take(step) {
-            return Some((number, difference));
-        }
+/// Prints and writes the smallest input found that shows a difference.
+fn tell(input: Input, folder: &Path) {
+    let at_first = input.to_string();
+    let smallest = shrink::smallest(input, &|input| input.first_difference().map(|(last, _)| last));
+    println!("  at first {at_first}");
+    println!("  smallest {smallest}");
+    println!("  buffers {:?}", smallest.buffers);
+    println!("  settings {:?}", smallest.books.settings);
+    println!("  opening scalars {:?}", smallest.books.scalars);
+    for (number, line) in smallest.lines().iter().enumerate() {
+        println!("  {}. {line}", number + 1);
     }
-    None
+    match smallest.first_difference() {
+        Some((_, difference)) => println!("  last call: {difference}"),
+        None => println!("  seen only with other words past the records: use --case"),
+    }
+    match smallest.write(folder) {
+        Ok(()) => println!("  written; to run it again: compare --again {}", folder.display()),
+        Err(error) => println!("  not written to {}: {error}", folder.display()),
+    }
 }
 
-/// Prints the calls that are needed to show the difference: calls are left out as long as one is still shown.
-fn tell(opening: &Position, mut steps: Vec<Step>) {
-    let mut at = steps.len();
-    while at > 0 {
-        at -= 1;
-        let mut fewer = steps.clone();
-        fewer.remove(at);
-        if let Some((last, _)) = first_difference(opening, &fewer) {
-            fewer.truncate(last + 1);
-            steps = fewer;
-            at = at.min(steps.len());
+/// Makes the calls of a folder again.
+fn again(folder: &Path) -> u64 {
+    let input = Input::read(folder).unwrap_or_else(|error| {
+        eprintln!("{error}");
+        exit(2)
+    });
+    println!("{input}");
+    let mut position = input.opening();
+    for (line, step) in input.lines().iter().zip(&input.steps) {
+        match position.take(step) {
+            Ok(taken) => println!("{:02} {line}", taken.number),
+            Err(difference) => {
+                println!("DIFFERENCE: {line}\n{difference}");
+                return 1;
+            }
         }
     }
-    println!("  settings {:?}", opening.lent.settings());
-    println!("  opening scalars and counts {:?}", opening.lent.scalars);
-    for (number, step) in steps.iter().enumerate() {
-        println!("  {}. {} {step:?}", number + 1, step.name());
-    }
-    if let Some((_, difference)) = first_difference(opening, &steps) {
-        println!("  last call: {difference}");
-    }
+    println!("{} calls, 0 differences", input.steps.len());
+    0
 }
