@@ -461,3 +461,19 @@ fn withdrawals(lent: &mut Lent, list: &[Withdrawal], lengths: Lengths) -> (u8, b
     );
     (number, words.kept() && bytes.kept())
 }
+
+#[cfg(test)]
+mod tests {
+    use super::*;
+
+    #[test]
+    fn a_changed_own_buffer_is_noticed() {
+        for place in 0..3 {
+            let mut own = own_bytes(&[1, 2], 3);
+            assert!(own.kept());
+            // Safety: a place within the buffer, which is ours.
+            unsafe { *own.pointer().cast_mut().add(place) ^= 1 };
+            assert!(!own.kept());
+        }
+    }
+}
