@@ -2,7 +2,7 @@
 # run.sh COUNT SEED [OPTIONS]: that many random calls, each carried out by the static library and by the mended Rust in
 # one process, answers and books compared. Without numbers it lists the options.
 # run.sh --memcheck COUNT SEED [OPTIONS]: the same under valgrind's memcheck, which fails on an access outside what is
-# lent; some hundred times slower.
+# lent; about ten times slower.
 # First the static library is made of the crates as they stand (a minute or two where they are proved; on a fresh clone
 # all are proved, some 12 minutes), and the tests run that show that a difference is noticed. SOLARBASIL_LIB=FOLDER
 # links the library of that folder instead, and makes none.

@@ -12,6 +12,7 @@ compare COUNT SEED [OPTIONS]  that many random calls
   --large                     openings of 4,096 to 65,536 validators alone
   --case N                    that case of the seed alone, whatever COUNT says
   --out FOLDER                where the smallest input of each difference is written, one folder a case
+                              (default: oracle/target/differences)
 compare --again FOLDER        makes the calls of such a folder again
 ";
 
@@ -39,7 +40,7 @@ fn value<T: std::str::FromStr>(arguments: &mut impl Iterator<Item = String>) -> 
 pub fn read() -> Options {
     let (mut numbers, mut case, mut again) = (vec![], None, None);
     let mut sizes = Sizes::All;
-    let mut out = Path::new(env!("CARGO_MANIFEST_DIR")).join("../target/differences");
+    let mut out = Path::new(env!("CARGO_MANIFEST_DIR")).with_file_name("target").join("differences");
     let mut arguments = env::args().skip(1);
     while let Some(argument) = arguments.next() {
         match argument.as_str() {
