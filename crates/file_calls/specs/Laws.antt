@@ -45,22 +45,23 @@ code-kept (suc (suc (suc (suc (suc (suc (suc zero))))))) us e = refl
 code-kept (suc (suc (suc (suc (suc (suc (suc (suc zero)))))))) us e = refl
 code-kept (suc (suc (suc (suc (suc (suc (suc (suc (suc c))))))))) us e = impossible e
 
-above-4 : (n : ℕ) → 0 < n → (n ≡ 1 → ⊥) → (n ≡ 2 → ⊥) → (n ≡ 3 → ⊥) → (n ≡ 4 → ⊥) → 4 < n
-above-4 n h a b c d = omega arith
-
-is-8 : (n : ℕ) → 4 < n → n ≤ 8 → (n ≡ 5 → ⊥) → (n ≡ 6 → ⊥) → (n ≡ 7 → ⊥) → n ≡ 8
-is-8 n h k a b c = omega arith
-
 module _ {file : List ℕ} {k : ℕ} (c : CallAt file k) where
   pub code-range : (0 < code-at (words file) k) × (code-at (words file) k ≤ 8)
   code-range = code-small _ _ (fields-good (words file) k (c .good))
 
-  -- a code that is none of 1 to 7 is 8
-  pub code-last : {n : ℕ} → n ≡ code-at (words file) k → (n ≡ 1 → ⊥) → (n ≡ 2 → ⊥) → (n ≡ 3 → ⊥) → (n ≡ 4 → ⊥)
-      → (n ≡ 5 → ⊥) → (n ≡ 6 → ⊥) → (n ≡ 7 → ⊥) → code-at (words file) k ≡ 8
-  code-last {n} e a₁ a₂ a₃ a₄ a₅ a₆ a₇ =
-      let r : (0 < n) × (n ≤ 8) = rw e code-range in
-      sym e ∙ is-8 n (above-4 n (r .0) a₁ a₂ a₃ a₄) (r .1) a₅ a₆ a₇
+  -- the last code of each kind
+  module _ {n : ℕ} where
+    pub code-3 : code-at (words file) k ≤ 3 → n ≡ code-at (words file) k → (n ≡ 1 → ⊥) → (n ≡ 2 → ⊥)
+        → code-at (words file) k ≡ 3
+    code-3 most e a₁ a₂ = let r = code-range in omega arith
+
+    pub code-6 : (4 ≤ code-at (words file) k) × (code-at (words file) k ≤ 6) → n ≡ code-at (words file) k
+        → (n ≡ 4 → ⊥) → (n ≡ 5 → ⊥) → code-at (words file) k ≡ 6
+    code-6 range e a₄ a₅ = omega arith
+
+    pub code-8 : 7 ≤ code-at (words file) k → n ≡ code-at (words file) k → (n ≡ 7 → ⊥)
+        → code-at (words file) k ≡ 8
+    code-8 least e a₇ = let r = code-range in omega arith
 
   pub code-written : written (operation-at file k) .code ≡ code-at (words file) k
   code-written =

@@ -1,7 +1,7 @@
 use borrow.Author.Needs.{needs}
 use Rattle.file_calls.specs.Laws.{called-as}
-use Rattle.file_calls.proofs.voluntary_exit.Statement.{statement}
-use Rattle.file_calls.proofs.voluntary_exit.Tie as tie
+use Rattle.file_calls.proofs.exits.voluntary_exit.Statement.{statement}
+use Rattle.file_calls.proofs.exits.voluntary_exit.Tie as tie
 
 exit-at-requires : tie.Need-exit-at-requires
 exit-at-requires c κs = search needs

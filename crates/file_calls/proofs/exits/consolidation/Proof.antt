@@ -1,7 +1,7 @@
 use borrow.Author.Needs.{needs}
 use Rattle.file_calls.specs.Laws.{called-as}
-use Rattle.file_calls.proofs.consolidation.Statement.{statement}
-use Rattle.file_calls.proofs.consolidation.Tie as tie
+use Rattle.file_calls.proofs.exits.consolidation.Statement.{statement}
+use Rattle.file_calls.proofs.exits.consolidation.Tie as tie
 
 consolidation-at-requires : tie.Need-consolidation-at-requires
 consolidation-at-requires c κs = search needs

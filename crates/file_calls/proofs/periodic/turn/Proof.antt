@@ -1,7 +1,7 @@
 use borrow.Author.Needs.{needs}
 use Rattle.file_calls.specs.Laws.{called-as, turn-there}
-use Rattle.file_calls.proofs.turn.Statement.{statement}
-use Rattle.file_calls.proofs.turn.Tie as tie
+use Rattle.file_calls.proofs.periodic.turn.Statement.{statement}
+use Rattle.file_calls.proofs.periodic.turn.Tie as tie
 
 turn-accepted-requires : tie.Need-turn-accepted-requires
 turn-accepted-requires c κs = search needs

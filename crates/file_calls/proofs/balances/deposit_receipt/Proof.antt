@@ -1,7 +1,7 @@
 use borrow.Author.Needs.{needs}
 use Rattle.file_calls.specs.Laws.{called-as, sum-small, within-known}
-use Rattle.file_calls.proofs.deposit_receipt.Statement.{statement}
-use Rattle.file_calls.proofs.deposit_receipt.Tie as tie
+use Rattle.file_calls.proofs.balances.deposit_receipt.Statement.{statement}
+use Rattle.file_calls.proofs.balances.deposit_receipt.Tie as tie
 
 receipt-at-requires : tie.Need-receipt-at-requires
 receipt-at-requires c κs = search needs

@@ -1,7 +1,7 @@
 use borrow.Author.Needs.{needs}
 use Rattle.file_calls.specs.Laws.{called-as}
-use Rattle.file_calls.proofs.withdrawals.Statement.{statement}
-use Rattle.file_calls.proofs.withdrawals.Tie as tie
+use Rattle.file_calls.proofs.periodic.withdrawals.Statement.{statement}
+use Rattle.file_calls.proofs.periodic.withdrawals.Tie as tie
 
 withdrawals-at-requires : tie.Need-withdrawals-at-requires
 withdrawals-at-requires c κs = search needs

@@ -1,8 +1,8 @@
 use native.Mathlib.Omega.{arith}
 use borrow.Author.Needs.{needs}
 use Rattle.file_calls.specs.Laws.{called-as, sum-small, within-known}
-use Rattle.file_calls.proofs.reward.Statement.{statement}
-use Rattle.file_calls.proofs.reward.Tie as tie
+use Rattle.file_calls.proofs.balances.reward.Statement.{statement}
+use Rattle.file_calls.proofs.balances.reward.Tie as tie
 
 amount-at-requires : tie.Need-amount-at-requires
 amount-at-requires c κs =

@@ -1,8 +1,8 @@
 use native.Mathlib.Omega.{arith}
 use borrow.Author.Needs.{needs}
 use Rattle.file_calls.specs.Laws.{called-as}
-use Rattle.file_calls.proofs.penalty.Statement.{statement}
-use Rattle.file_calls.proofs.penalty.Tie as tie
+use Rattle.file_calls.proofs.balances.penalty.Statement.{statement}
+use Rattle.file_calls.proofs.balances.penalty.Tie as tie
 
 amount-at-requires : tie.Need-amount-at-requires
 amount-at-requires c κs =
