@@ -18,73 +18,83 @@ use Rattle.file_format.specs.File.{file-ok, read-file, read-calls}
 use Rattle.file_format.specs.Places.{count-at}
 use Rattle.file_format.specs.Calls.{calls-format}
 use Rattle.calls_reader.specs.Calls.{good-calls, calls-read}
-use Rattle.file_calls.specs.Ready.{Accepted}
+use Rattle.file_calls.specs.Ready.{Accepted, Holds}
 use Rattle.runs.specs.Promise.{listed-answer, carry-out-answer, Done, CarriedOut}
 use Rattle.runs.specs.Ready.{CallsAt, operations-at}
+use Rattle.runs.specs.Judged.{Judged}
 use Rattle.runs.specs.Steps.{many-size}
 
--- ---- a file that was judged
-
-pub calls-there : {file : List ℕ} {n : ℕ} → file-ok calls-format file ≡ true → n ≡ count-at (words file) 1
-    → CallsAt file n
-calls-there {file} e c = let g = good-calls file e in rw c (record { most = g .most; good = g .good })
-
-module _ (S : rule.Settings) (s : Scalars) (t : Tables) (file before : List ℕ) where
-  abbrev answer : ℕ
-  answer = carry-out-answer S (books-of s t) (room-of t) file (length before)
-
+module _ (S : rule.Settings) (s : Scalars) (t : Tables) (file : List ℕ) where
   -- ---- refusals
 
-  refused-with : (n : ℕ) → n ≡ answer → (n ≡ 0 → ⊥) → CarriedOut S s t t file before before n s 0
-  refused-with n e z = record {
-    number = e;
-    done = λ os d r. absurd (z d);
-    refused = λ y. (refl, (refl, (refl, refl)));
-  }
+  module _ (space : ℕ) where
+    abbrev answer : ℕ
+    answer = carry-out-answer S (books-of s t) (room-of t) file space
 
-  pub books-refused : (n : ℕ) → n ≡ handed-refusal S (books-of s t) (room-of t) → (n ≡ 0 → ⊥)
-      → CarriedOut S s t t file before before n s 0
-  unfolding carry-out-answer if_then_else_
-  books-refused n e z = refused-with n (rw (← e) (rw (ne-eqb n 0 z))) z
+    refused-with : {held count : ℕ} (n : ℕ) → n ≡ answer → (n ≡ 0 → ⊥) → Judged S s t file space n held count
+    refused-with n e z = record { number = e; runnable = λ d. absurd (z d) }
 
-  module _ (h : Accepted S s t) where
-    listed : answer ≡ listed-answer (length before) (read-calls file)
+    pub books-refused : {n held count : ℕ} → n ≡ handed-refusal S (books-of s t) (room-of t) → (n ≡ 0 → ⊥)
+        → Judged S s t file space n held count
     unfolding carry-out-answer if_then_else_
-    listed = rw h
+    books-refused {n} e z = refused-with n (rw (← e) (rw (ne-eqb n 0 z))) z
 
-    pub file-refused : file-ok calls-format file ≡ false → CarriedOut S s t t file before before 60 s 0
-    unfolding read-file
-    file-refused e =
-        let r : read-calls file ≡ none = if-false _ _ _ e in
-        refused-with 60 (sym (listed ∙ ap (listed-answer (length before)) r)) (omega arith)
+    module _ (h : Accepted S s t) where
+      listed : answer ≡ listed-answer space (read-calls file)
+      unfolding carry-out-answer if_then_else_
+      listed = rw h
 
-    module _ {n : ℕ} (e : file-ok calls-format file ≡ true) (c : n ≡ count-at (words file) 1) where
-      read : read-calls file ≡ some (operations-at file n)
-      read = calls-read file e ∙ ap (λ m. some (operations-at file m)) (sym c)
+      pub file-refused : {n held count : ℕ} → n ≡ 60 → file-ok calls-format file ≡ false
+          → Judged S s t file space n held count
+      unfolding read-file
+      file-refused {n} q e =
+          let r : read-calls file ≡ none = if-false _ _ _ e in
+          refused-with n (q ∙ sym (listed ∙ ap (listed-answer space) r)) (omega arith)
 
-      size : length (operations-at file n) ≡ n
-      size = many-size n _
+      module _ {n : ℕ} (e : file-ok calls-format file ≡ true) (c : n ≡ count-at (words file) 1) where
+        calls-there : CallsAt file n
+        calls-there = let g = good-calls file e in rw c (record { most = g .most; good = g .good })
 
-      pub results-refused : length before / 3 < n → CarriedOut S s t t file before before 61 s 0
-      results-refused l =
-          let k : length before < 3 * length (operations-at file n) = omega (arith, size) in
-          refused-with 61
-          (sym (listed ∙ ap (listed-answer (length before)) read ∙ if-true _ 61 0 (lt-ltb _ _ k)))
-          (omega arith)
+        read : read-calls file ≡ some (operations-at file n)
+        read = calls-read file e ∙ ap (λ m. some (operations-at file m)) (sym c)
 
-      -- ---- done
+        size : length (operations-at file n) ≡ n
+        size = many-size n _
 
-      pub room-there : n ≤ length before / 3 → 3 * n ≤ length before
-      room-there l = omega arith
+        pub results-refused : {m held count : ℕ} → m ≡ 61 → space / 3 < n → Judged S s t file space m held count
+        results-refused {m} q l =
+            let k : space < 3 * length (operations-at file n) = omega (arith, size) in
+            refused-with m
+            (q ∙ sym (listed ∙ ap (listed-answer space) read ∙ if-true _ 61 0 (lt-ltb _ _ k)))
+            (omega arith)
 
-      pub all-done : {u : Tables} {after : List ℕ} {r : Scalars} → n ≤ length before / 3
-          → Done S s t u (operations-at file n) before after r n → CarriedOut S s t u file before after 0 r n
-      all-done {u} {after} {r} l d = record {
-        number =
-            let k : 3 * length (operations-at file n) ≤ length before = omega (arith, size) in
-            sym (listed ∙ ap (listed-answer (length before)) read ∙ if-false _ 61 0 (le-ltb _ _ k));
-        done = λ os z q.
-            let same : operations-at file n ≡ os = cc (read, q) in
-            rw same at d;
-        refused = λ z. absurd (z refl);
-      }
+        -- ---- none
+
+        pub nothing-refused : {held : ℕ} → n ≤ space / 3 → Holds s t held → Judged S s t file space 0 held n
+        nothing-refused l sum =
+            let k : 3 * length (operations-at file n) ≤ space = omega (arith, size) in
+            record {
+              number = sym (listed ∙ ap (listed-answer space) read ∙ if-false _ 61 0 (le-ltb _ _ k));
+              runnable = λ d.
+                  record { accepted = h; holds = sum; calls = calls-there; read = read; room = omega arith };
+            }
+
+  -- ---- what was judged, carried out
+
+  module _ {before : List ℕ} {n held count : ℕ} (j : Judged S s t file (length before) n held count) where
+    pub nothing-done : (n ≡ 0 → ⊥) → CarriedOut S s t t file before before n s 0
+    nothing-done z = record {
+      number = j .number;
+      done = λ os d r. absurd (z d);
+      refused = λ y. (refl, (refl, (refl, refl)));
+    }
+
+    pub all-done : {u : Tables} {after : List ℕ} {r : Scalars} → n ≡ 0
+        → Done S s t u (operations-at file count) before after r count → CarriedOut S s t u file before after 0 r count
+    all-done e d = record {
+      number = sym e ∙ j .number;
+      done = λ os z q.
+          let same : operations-at file count ≡ os = cc (j .runnable e .read, q) in
+          rw same at d;
+      refused = λ z. absurd (z refl);
+    }

@@ -4,5 +4,6 @@ pub mod Sums
 pub mod Promise
 pub mod Ready
 pub mod Steps
+pub mod Judged
 pub mod Answers
 pub mod Worked

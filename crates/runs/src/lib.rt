@@ -6,6 +6,7 @@ use primitives::Gwei;
 use primitives::Scalars;
 use primitives::Settings;
 use primitives::answers;
+ghost use mathlib.Core.Path.{_≡_};
 ghost use Prim.Native.Nat.{_*_, _≤_};
 ghost use lib.ListN.{length};
 ghost use Rattle.primitives.specs.Settings.{settings-of};
@@ -13,6 +14,7 @@ ghost use Rattle.records.specs.Books.{tables};
 ghost use Rattle.file_calls.specs.Ready.{Accepted, Holds};
 ghost use Rattle.runs.specs.Ready.{CallsAt, operations-at};
 ghost use Rattle.runs.specs.Promise.{Done, CarriedOut};
+ghost use Rattle.runs.specs.Judged.{Judged};
 
 // What carrying out a calls file answers: the number of its cause, the scalars that it leaves, and how many calls were
 // carried out.
@@ -20,6 +22,70 @@ pub struct Carried {
     pub number: u8,
     pub scalars: Scalars,
     pub count: usize,
+}
+
+// What is known before the first call: the number of the refusal, or 0 with the sum that the books hold and how many
+// calls the file has.
+struct Judgement {
+    number: u8,
+    held: Gwei,
+    count: usize,
+}
+
+fn refused(number: u8) -> Judgement
+    ensures { λ r. ⌜ r .number ≡ number ⌝ }
+{
+    Judgement {
+        number,
+        held: Gwei(0),
+        count: 0,
+    }
+}
+
+// The books first, then the file, then whether `space` numbers have room for its results.
+fn judge(
+    settings: Settings,
+    scalars: Scalars,
+    identities: &[u8],
+    validators: &[u64],
+    deposits: &[u64],
+    partials: &[u64],
+    consolidations: &[u64],
+    file: &[u8],
+    space: usize,
+) -> Judgement
+    ensures { λ r. ⌜
+        Judged (settings-of settings) scalars
+        (tables (now (identities .entry)) (now (validators .entry)) (now (deposits .entry))
+        (now (partials .entry)) (now (consolidations .entry)))
+        (now (file .entry)) space (r .number) (r .held .0) (r .count)
+        ⌝ }
+{
+    let handed = acceptance::accept(
+        settings,
+        scalars,
+        identities,
+        validators,
+        deposits,
+        partials,
+        consolidations,
+    );
+    if handed.number != answers::DONE {
+        return refused(handed.number);
+    }
+    if !calls_reader::calls_file_ok(file) {
+        return refused(answers::BROKEN_FILE);
+    }
+    let count = calls_reader::calls_count(file);
+    if space / 3 < count {
+        return refused(answers::WRITER_BUFFER_SHORT);
+    }
+    let held = handed.held;
+    Judgement {
+        number: answers::DONE,
+        held,
+        count,
+    }
 }
 
 // The n calls of a file that was judged good, on books that hold `opening`.
@@ -104,7 +170,7 @@ pub fn carry_out(
         (now (file .entry)) (now (results .entry)) (now (results .exit)) (r .number) (r .scalars) (r .count)
         ⌝ }
 {
-    let handed = acceptance::accept(
+    let judged = judge(
         settings,
         scalars,
         identities,
@@ -112,25 +178,12 @@ pub fn carry_out(
         deposits,
         partials,
         consolidations,
+        file,
+        results.len(),
     );
-    if handed.number != answers::DONE {
+    if judged.number != answers::DONE {
         return Carried {
-            number: handed.number,
-            scalars,
-            count: 0,
-        };
-    }
-    if !calls_reader::calls_file_ok(file) {
-        return Carried {
-            number: answers::BROKEN_FILE,
-            scalars,
-            count: 0,
-        };
-    }
-    let count = calls_reader::calls_count(file);
-    if results.len() / 3 < count {
-        return Carried {
-            number: answers::WRITER_BUFFER_SHORT,
+            number: judged.number,
             scalars,
             count: 0,
         };
@@ -143,14 +196,14 @@ pub fn carry_out(
         deposits,
         partials,
         consolidations,
-        handed.held,
+        judged.held,
         file,
-        count,
+        judged.count,
         results,
     );
     Carried {
         number: answers::DONE,
         scalars: after,
-        count,
+        count: judged.count,
     }
 }
