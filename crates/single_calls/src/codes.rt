@@ -71,15 +71,15 @@ fn validators_call(
     broken(scalars)
 }
 
-// Codes 3, 6 and 7 write other tables too, but not the partial withdrawals.
-fn queues_call(
+// Code 3 writes identities and deposits too.
+fn deposits_call(
     settings: Settings,
     scalars: Scalars,
     identities: &mut [u8],
     validators: &mut [u64],
     deposits: &mut [u64],
     partials: &[u64],
-    consolidations: &mut [u64],
+    consolidations: &[u64],
     file: &[u8],
     k: usize,
 ) -> Outcome
@@ -99,6 +99,34 @@ fn queues_call(
             k,
         );
     }
+    validators_call(
+        settings,
+        scalars,
+        identities,
+        validators,
+        deposits,
+        partials,
+        consolidations,
+        file,
+        k,
+    )
+}
+
+// Codes 6 and 7 write consolidations.
+fn consolidations_call(
+    settings: Settings,
+    scalars: Scalars,
+    identities: &mut [u8],
+    validators: &mut [u64],
+    deposits: &mut [u64],
+    partials: &[u64],
+    consolidations: &mut [u64],
+    file: &[u8],
+    k: usize,
+) -> Outcome
+    requires { ⌜ CallAt (now file) k ⌝ }
+{
+    let code = calls_reader::code_at(file, k);
     if code == 6 {
         return calls::consolidation(
             settings,
@@ -123,7 +151,7 @@ fn queues_call(
             consolidations,
         );
     }
-    validators_call(
+    deposits_call(
         settings,
         scalars,
         identities,
@@ -177,7 +205,7 @@ fn file_call(
             k,
         );
     }
-    queues_call(
+    consolidations_call(
         settings,
         scalars,
         identities,

@@ -3,6 +3,8 @@ use primitives::Scalars;
 use primitives::Settings;
 use primitives::ValidatorIndex;
 use primitives::answers;
+use records::queues::deposit_at;
+use records::queues::deposits_fit;
 use records::registry::balance_at;
 use records::registry::validators_fit;
 
@@ -23,10 +25,11 @@ fn sum_deposits(deposits: &[u64], n: usize) -> u64 {
     let mut sum: u64 = 0;
     let mut i: usize = 0;
     while i < n {
-        if deposits.len() / 2 <= i {
+        if deposits_fit(deposits) <= i {
             return sum;
         }
-        sum = std::num::wrapping_add_u64(sum, deposits[i * 2 + 1]);
+        let deposit = deposit_at(deposits, i);
+        sum = std::num::wrapping_add_u64(sum, deposit.amount.0);
         i += 1;
     }
     sum

@@ -12,20 +12,14 @@ abbrev μ-loop : tie.MeasureT-loop
 loop-holds : tie.Need-loop-holds Inv-loop μ-loop
 loop-holds c = search needs
 
+deposits-fit-requires : tie.Need-deposits-fit-requires Inv-loop μ-loop
+deposits-fit-requires c κs = search needs
+
 returns : tie.Need-returns Inv-loop μ-loop
 returns c = search needs
 
-mul-wrapping-add-u64 : tie.Need-mul-wrapping-add-u64 Inv-loop μ-loop
-mul-wrapping-add-u64 c = search needs
-
-add-wrapping-add-u64 : tie.Need-add-wrapping-add-u64 Inv-loop μ-loop
-add-wrapping-add-u64 c = search needs
-
-mul-wrapping-add-u64-2 : tie.Need-mul-wrapping-add-u64-2 Inv-loop μ-loop
-mul-wrapping-add-u64-2 c = search needs
-
-shared-slice-read-wrapping-add-u64 : tie.Need-shared-slice-read-wrapping-add-u64 Inv-loop μ-loop
-shared-slice-read-wrapping-add-u64 c = search needs
+deposit-at-requires : tie.Need-deposit-at-requires Inv-loop μ-loop
+deposit-at-requires c κs = search needs
 
 wrapping-add-u64-requires : tie.Need-wrapping-add-u64-requires Inv-loop μ-loop
 wrapping-add-u64-requires c κs = search needs
@@ -49,11 +43,9 @@ sum-deposits-spec =
     Inv-loop
     μ-loop
     loop-holds
+    deposits-fit-requires
     returns
-    mul-wrapping-add-u64
-    add-wrapping-add-u64
-    mul-wrapping-add-u64-2
-    shared-slice-read-wrapping-add-u64
+    deposit-at-requires
     wrapping-add-u64-requires
     add-i
     loop-less
