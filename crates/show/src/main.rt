@@ -8,7 +8,8 @@ use pattern::show;
 use words::Reading;
 use words::next;
 
-fn settings(reading: Reading, buf: &mut [u8; 65536], out: &mut [u8; 65536]) -> Reading {
+// Balances and the churn.
+fn balance_settings(reading: Reading, buf: &mut [u8; 65536], out: &mut [u8; 65536]) -> Reading {
     let mut r = show(
         reading,
         buf,
@@ -32,30 +33,38 @@ fn settings(reading: Reading, buf: &mut [u8; 65536], out: &mut [u8; 65536]) -> R
         0,
         b"setting max_per_epoch_activation_exit_churn_limit N\n",
     );
-    r = show(
-        r,
+    show(r, buf, out, 0, b"setting churn_limit_quotient N\n")
+}
+
+// Delays in epochs and the hysteresis.
+fn delay_settings(reading: Reading, buf: &mut [u8; 65536], out: &mut [u8; 65536]) -> Reading {
+    let mut r = show(
+        reading,
         buf,
         out,
         0,
-        b"setting churn_limit_quotient N\nsetting shard_committee_period N\n",
+        b"setting shard_committee_period N\nsetting min_validator_withdrawability_delay N\n",
     );
     r = show(
         r,
         buf,
         out,
         0,
-        b"setting min_validator_withdrawability_delay N\nsetting max_seed_lookahead N\n",
+        b"setting max_seed_lookahead N\nsetting hysteresis_quotient N\n",
     );
-    r = show(
+    show(
         r,
         buf,
         out,
         0,
-        b"setting hysteresis_quotient N\nsetting hysteresis_downward_multiplier N\n",
-    );
-    r = show(r, buf, out, 0, b"setting hysteresis_upward_multiplier N\n");
-    r = show(
-        r,
+        b"setting hysteresis_downward_multiplier N\nsetting hysteresis_upward_multiplier N\n",
+    )
+}
+
+// What a payload and a sweep take at most, and the limits of the lists.
+fn limit_settings(reading: Reading, buf: &mut [u8; 65536], out: &mut [u8; 65536]) -> Reading {
+    let mut r = show(
+        reading,
         buf,
         out,
         0,
@@ -84,6 +93,12 @@ fn settings(reading: Reading, buf: &mut [u8; 65536], out: &mut [u8; 65536]) -> R
         b"setting pending_partial_withdrawals_limit N\n",
     );
     show(r, buf, out, 0, b"setting pending_consolidations_limit N\n")
+}
+
+fn settings(reading: Reading, buf: &mut [u8; 65536], out: &mut [u8; 65536]) -> Reading {
+    let balances = balance_settings(reading, buf, out);
+    let delays = delay_settings(balances, buf, out);
+    limit_settings(delays, buf, out)
 }
 
 fn scalars(reading: Reading, buf: &mut [u8; 65536], out: &mut [u8; 65536]) -> Reading {
@@ -118,6 +133,30 @@ fn scalars(reading: Reading, buf: &mut [u8; 65536], out: &mut [u8; 65536]) -> Re
     show(r, buf, out, 0, b"scalar earliest_consolidation_epoch N\n")
 }
 
+fn validator(reading: Reading, buf: &mut [u8; 65536], out: &mut [u8; 65536], i: usize) -> Reading {
+    let mut r = show(
+        reading,
+        buf,
+        out,
+        i,
+        b"validator I public_key K withdrawal_credentials C slashed F",
+    );
+    r = show(
+        r,
+        buf,
+        out,
+        i,
+        b" effective_balance N activation_eligibility_epoch N activation_epoch N",
+    );
+    show(
+        r,
+        buf,
+        out,
+        i,
+        b" exit_epoch N withdrawable_epoch N balance N\n",
+    )
+}
+
 // Record i of a list: 0 validators, 1 deposits, 2 partial withdrawals, 3 consolidations, 4 withdrawals of a call.
 fn record(
     reading: Reading,
@@ -127,27 +166,7 @@ fn record(
     i: usize,
 ) -> Reading {
     if list == 0 {
-        let mut r = show(
-            reading,
-            buf,
-            out,
-            i,
-            b"validator I public_key K withdrawal_credentials C slashed F",
-        );
-        r = show(
-            r,
-            buf,
-            out,
-            i,
-            b" effective_balance N activation_eligibility_epoch N activation_epoch N",
-        );
-        return show(
-            r,
-            buf,
-            out,
-            i,
-            b" exit_epoch N withdrawable_epoch N balance N\n",
-        );
+        return validator(reading, buf, out, i);
     }
     if list == 1 {
         return show(
@@ -225,8 +244,8 @@ fn books(reading: Reading, buf: &mut [u8; 65536], out: &mut [u8; 65536]) -> Read
     records(r, buf, out, 0x1000_0000, b"pending_consolidations I\n", 3)
 }
 
-// What follows the code.
-fn fields(
+// A reward, a penalty or a deposit receipt, codes 1 to 3.
+fn balance_fields(
     reading: Reading,
     buf: &mut [u8; 65536],
     out: &mut [u8; 65536],
@@ -251,16 +270,24 @@ fn fields(
             b"call I penalty validator N amount N\n",
         );
     }
-    if code == 3 {
-        let r = show(
-            reading,
-            buf,
-            out,
-            i,
-            b"call I deposit_receipt public_key K withdrawal_credentials C",
-        );
-        return show(r, buf, out, i, b" amount N index N valid F\n");
-    }
+    let r = show(
+        reading,
+        buf,
+        out,
+        i,
+        b"call I deposit_receipt public_key K withdrawal_credentials C",
+    );
+    show(r, buf, out, i, b" amount N index N valid F\n")
+}
+
+// A voluntary exit, a withdrawal request or a consolidation, codes 4 to 6.
+fn exit_fields(
+    reading: Reading,
+    buf: &mut [u8; 65536],
+    out: &mut [u8; 65536],
+    code: u32,
+    i: usize,
+) -> Reading {
     if code == 4 {
         return show(
             reading,
@@ -279,14 +306,28 @@ fn fields(
             b"call I withdrawal_request source_address A public_key K amount N\n",
         );
     }
-    if code == 6 {
-        return show(
-            reading,
-            buf,
-            out,
-            i,
-            b"call I consolidation source_index N target_index N epoch N valid F\n",
-        );
+    show(
+        reading,
+        buf,
+        out,
+        i,
+        b"call I consolidation source_index N target_index N epoch N valid F\n",
+    )
+}
+
+// What follows the code.
+fn fields(
+    reading: Reading,
+    buf: &mut [u8; 65536],
+    out: &mut [u8; 65536],
+    code: u32,
+    i: usize,
+) -> Reading {
+    if code <= 3 {
+        return balance_fields(reading, buf, out, code, i);
+    }
+    if code <= 6 {
+        return exit_fields(reading, buf, out, code, i);
     }
     if code == 7 {
         return show(reading, buf, out, i, b"call I turn\n");
