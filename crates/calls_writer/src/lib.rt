@@ -115,32 +115,38 @@ fn put_amount(out: &mut [u8], k: usize, code: u32, i: ValidatorIndex, amount: Gw
     put_number(out, k + 4, amount.0);
 }
 
-pub fn add_reward(out: &mut [u8], length: usize, i: ValidatorIndex, amount: Gwei) -> Written
+pub fn add_reward(out: &mut [u8], size: usize, i: ValidatorIndex, amount: Gwei) -> Written
     ensures { λ r. ⌜
-        Added (reward (i .0) (amount .0)) length (now (out .entry)) (now (out .exit)) (r .number) (r .length)
+        Added (reward (i .0) (amount .0)) size (now (out .entry)) (now (out .exit)) (r .number) (r .length)
         ⌝ }
 {
-    let number = open(out, length, 7);
+    let number = open(out, size, 7);
     if number != answers::DONE {
-        return Written { number, length };
+        return Written {
+            number,
+            length: size,
+        };
     }
-    let k = length / 4 - 1;
+    let k = size / 4 - 1;
     put_amount(out, k, 1, i, amount);
-    close(out, length, 7)
+    close(out, size, 7)
 }
 
-pub fn add_penalty(out: &mut [u8], length: usize, i: ValidatorIndex, amount: Gwei) -> Written
+pub fn add_penalty(out: &mut [u8], size: usize, i: ValidatorIndex, amount: Gwei) -> Written
     ensures { λ r. ⌜
-        Added (penalty (i .0) (amount .0)) length (now (out .entry)) (now (out .exit)) (r .number) (r .length)
+        Added (penalty (i .0) (amount .0)) size (now (out .entry)) (now (out .exit)) (r .number) (r .length)
         ⌝ }
 {
-    let number = open(out, length, 7);
+    let number = open(out, size, 7);
     if number != answers::DONE {
-        return Written { number, length };
+        return Written {
+            number,
+            length: size,
+        };
     }
-    let k = length / 4 - 1;
+    let k = size / 4 - 1;
     put_amount(out, k, 2, i, amount);
-    close(out, length, 7)
+    close(out, size, 7)
 }
 
 // ---- receipt, code 3
@@ -171,7 +177,7 @@ fn put_receipt(
 
 pub fn add_deposit_receipt(
     out: &mut [u8],
-    length: usize,
+    size: usize,
     public_key: [u8; 48],
     withdrawal_credentials: [u8; 32],
     amount: Gwei,
@@ -179,15 +185,18 @@ pub fn add_deposit_receipt(
     valid: bool,
 ) -> Written
     ensures { λ r. ⌜
-        Added (deposit-receipt «public_key» «withdrawal_credentials» (amount .0) index valid) length
+        Added (deposit-receipt «public_key» «withdrawal_credentials» (amount .0) index valid) size
         (now (out .entry)) (now (out .exit)) (r .number) (r .length)
         ⌝ }
 {
-    let number = open(out, length, 35);
+    let number = open(out, size, 35);
     if number != answers::DONE {
-        return Written { number, length };
+        return Written {
+            number,
+            length: size,
+        };
     }
-    let k = length / 4 - 1;
+    let k = size / 4 - 1;
     put_receipt(
         out,
         k,
@@ -197,7 +206,7 @@ pub fn add_deposit_receipt(
         index,
         valid,
     );
-    close(out, length, 35)
+    close(out, size, 35)
 }
 
 // ---- exit, code 4
@@ -216,23 +225,26 @@ fn put_exit(out: &mut [u8], k: usize, i: ValidatorIndex, epoch: Epoch, valid: bo
 
 pub fn add_voluntary_exit(
     out: &mut [u8],
-    length: usize,
+    size: usize,
     i: ValidatorIndex,
     epoch: Epoch,
     valid: bool,
 ) -> Written
     ensures { λ r. ⌜
-        Added (voluntary-exit (i .0) (epoch .0) valid) length (now (out .entry)) (now (out .exit)) (r .number)
+        Added (voluntary-exit (i .0) (epoch .0) valid) size (now (out .entry)) (now (out .exit)) (r .number)
         (r .length)
         ⌝ }
 {
-    let number = open(out, length, 8);
+    let number = open(out, size, 8);
     if number != answers::DONE {
-        return Written { number, length };
+        return Written {
+            number,
+            length: size,
+        };
     }
-    let k = length / 4 - 1;
+    let k = size / 4 - 1;
     put_exit(out, k, i, epoch, valid);
-    close(out, length, 8)
+    close(out, size, 8)
 }
 
 // ---- request, code 5
@@ -258,23 +270,26 @@ fn put_request(
 
 pub fn add_withdrawal_request(
     out: &mut [u8],
-    length: usize,
+    size: usize,
     source_address: [u8; 20],
     public_key: [u8; 48],
     amount: Gwei,
 ) -> Written
     ensures { λ r. ⌜
-        Added (withdrawal-request «source_address» «public_key» (amount .0)) length (now (out .entry))
+        Added (withdrawal-request «source_address» «public_key» (amount .0)) size (now (out .entry))
         (now (out .exit)) (r .number) (r .length)
         ⌝ }
 {
-    let number = open(out, length, 27);
+    let number = open(out, size, 27);
     if number != answers::DONE {
-        return Written { number, length };
+        return Written {
+            number,
+            length: size,
+        };
     }
-    let k = length / 4 - 1;
+    let k = size / 4 - 1;
     put_request(out, k, source_address, public_key, amount);
-    close(out, length, 27)
+    close(out, size, 27)
 }
 
 // ---- consolidation, code 6
@@ -303,38 +318,44 @@ fn put_consolidation(
 
 pub fn add_consolidation(
     out: &mut [u8],
-    length: usize,
+    size: usize,
     source_index: ValidatorIndex,
     target_index: ValidatorIndex,
     epoch: Epoch,
     valid: bool,
 ) -> Written
     ensures { λ r. ⌜
-        Added (consolidation («source_index» .0) («target_index» .0) (epoch .0) valid) length (now (out .entry))
+        Added (consolidation («source_index» .0) («target_index» .0) (epoch .0) valid) size (now (out .entry))
         (now (out .exit)) (r .number) (r .length)
         ⌝ }
 {
-    let number = open(out, length, 11);
+    let number = open(out, size, 11);
     if number != answers::DONE {
-        return Written { number, length };
+        return Written {
+            number,
+            length: size,
+        };
     }
-    let k = length / 4 - 1;
+    let k = size / 4 - 1;
     put_consolidation(out, k, source_index, target_index, epoch, valid);
-    close(out, length, 11)
+    close(out, size, 11)
 }
 
 // ---- the turn, code 7
 
-pub fn add_turn(out: &mut [u8], length: usize) -> Written
-    ensures { λ r. ⌜ Added turn length (now (out .entry)) (now (out .exit)) (r .number) (r .length) ⌝ }
+pub fn add_turn(out: &mut [u8], size: usize) -> Written
+    ensures { λ r. ⌜ Added turn size (now (out .entry)) (now (out .exit)) (r .number) (r .length) ⌝ }
 {
-    let number = open(out, length, 1);
+    let number = open(out, size, 1);
     if number != answers::DONE {
-        return Written { number, length };
+        return Written {
+            number,
+            length: size,
+        };
     }
-    let k = length / 4 - 1;
+    let k = size / 4 - 1;
     put_code(out, k, 7);
-    close(out, length, 1)
+    close(out, size, 1)
 }
 
 // ---- withdrawals, code 8
@@ -380,29 +401,27 @@ fn put_withdrawals(out: &mut [u8], k: usize, list: [Withdrawal; 16], count: usiz
 }
 
 // 60 too where the count is above 16.
-pub fn add_withdrawals(
-    out: &mut [u8],
-    length: usize,
-    list: [Withdrawal; 16],
-    count: usize,
-) -> Written
+pub fn add_withdrawals(out: &mut [u8], size: usize, list: [Withdrawal; 16], count: usize) -> Written
     ensures { λ r. ⌜
-        Added (withdrawals (handed-list list count)) length (now (out .entry)) (now (out .exit)) (r .number)
+        Added (withdrawals (handed-list list count)) size (now (out .entry)) (now (out .exit)) (r .number)
         (r .length)
         ⌝ }
 {
     if count > 16 {
         return Written {
             number: answers::BROKEN_FILE,
-            length,
+            length: size,
         };
     }
     let width = 2 + count * 16;
-    let number = open(out, length, width);
+    let number = open(out, size, width);
     if number != answers::DONE {
-        return Written { number, length };
+        return Written {
+            number,
+            length: size,
+        };
     }
-    let k = length / 4 - 1;
+    let k = size / 4 - 1;
     put_withdrawals(out, k, list, count);
-    close(out, length, width)
+    close(out, size, width)
 }
