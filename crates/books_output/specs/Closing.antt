@@ -36,15 +36,15 @@ pub record ClosingWritten (opening calls before after : List ℕ) (n size : ℕ)
   pub refused : (n ≡ 0 → ⊥) → (size ≡ 0) × (after ≡ before)
 
 -- no two outcomes
-pub closing-fixed : {opening calls before after last : List ℕ} {n m size length : ℕ}
-    → ClosingWritten opening calls before after n size → ClosingWritten opening calls before last m length
-    → (n ≡ m) × (size ≡ length) × (after ≡ last)
-closing-fixed {after = after} {last} {n} {m} {size} {length} a b = go (eqb n 0) refl
+pub closing-fixed : {opening calls before after last : List ℕ} {n m size bytes : ℕ}
+    → ClosingWritten opening calls before after n size → ClosingWritten opening calls before last m bytes
+    → (n ≡ m) × (size ≡ bytes) × (after ≡ last)
+closing-fixed {after = after} {last} {n} {m} {size} {bytes} a b = go (eqb n 0) refl
   where
     same : n ≡ m
     same = a .number ∙ sym (b .number)
 
-    go : (t : Bool) → eqb n 0 ≡ t → (n ≡ m) × (size ≡ length) × (after ≡ last)
+    go : (t : Bool) → eqb n 0 ≡ t → (n ≡ m) × (size ≡ bytes) × (after ≡ last)
     go true e =
         let z = eqb-true n 0 e in
         let x = a .done z in

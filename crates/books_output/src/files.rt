@@ -52,6 +52,17 @@ fn open(
     )
 }
 
+fn refused(number: u8, settings: Settings, scalars: Scalars) -> Closing
+    ensures { λ r. ⌜ r .number ≡ number ⌝ }
+{
+    Closing {
+        number,
+        settings,
+        scalars,
+        count: 0,
+    }
+}
+
 // The opening is judged before the calls are looked at.
 pub fn carry_out_files(
     opening: &[u8],
@@ -85,20 +96,10 @@ pub fn carry_out_files(
     let settings = opened.settings;
     let scalars = opened.scalars;
     if opened.number != answers::DONE {
-        return Closing {
-            number: opened.number,
-            settings,
-            scalars,
-            count: 0,
-        };
+        return refused(opened.number, settings, scalars);
     }
     if calls.len() > MOST_BYTES {
-        return Closing {
-            number: answers::BROKEN_FILE,
-            settings,
-            scalars,
-            count: 0,
-        };
+        return refused(answers::BROKEN_FILE, settings, scalars);
     }
     let carried = runs::carry_out(
         settings,

@@ -9,53 +9,82 @@ use Rattle.books_output.proofs.files.carry_out_files.Tie as tie
 open-requires : tie.Need-open-requires
 open-requires c κs = search needs
 
+refused-requires : tie.Need-refused-requires
+refused-requires c κs = search needs
+
 same-length : tie.Need-same-length
-same-length c = search needs
+same-length c =
+    c .before .before .before .before .before .before .before .before .before .before .before .before .before
+    .before .before .«open» .kept .1 .0
 
 same-length-2 : tie.Need-same-length-2
-same-length-2 c = search needs
+same-length-2 c =
+    c .before .before .before .before .before .before .before .before .before .before .before .before .before
+    .before .before .«open» .kept .1 .1 .0
 
 same-length-3 : tie.Need-same-length-3
-same-length-3 c = search needs
+same-length-3 c =
+    c .before .before .before .before .before .before .before .before .before .before .before .before .before
+    .before .before .«open» .kept .1 .1 .1 .0
 
 same-length-4 : tie.Need-same-length-4
-same-length-4 c = search needs
+same-length-4 c =
+    c .before .before .before .before .before .before .before .before .before .before .before .before .before
+    .before .before .«open» .kept .1 .1 .1 .1 .0
 
 same-length-5 : tie.Need-same-length-5
-same-length-5 c = search needs
+same-length-5 c =
+    c .before .before .before .before .before .before .before .before .before .before .before .before .before
+    .before .before .«open» .kept .1 .1 .1 .1 .1 .0
 
 returns : tie.Need-returns
 returns c =
-    let b = c .before .before .before .before .before .before .before .before .before .before .before .before
-    .before .before .before .before .before .before .before .before .before .before .before .before .before .before
+    let judged = c .before in
+    let at-open = judged .before .before .before .before .before .before .before .before .before .before .before .before
     .before .before in
-    refused-files refl (c .if1 .taken) (c .before .before .before .before .before .before .before .before .before
-    .before .before .before .before .before .«open» .ensures .refused (c .if1 .taken) (b .args .calls .now))
+    let start = at-open .before .before .before .before .before .before .before .before .before .before .before .before
+    .before .before in
+    refused-files (c .refused .ensures) (judged .if1 .taken)
+    (at-open .«open» .ensures .refused (judged .if1 .taken) (start .args .calls .now))
+
+refused-requires-2 : tie.Need-refused-requires-2
+refused-requires-2 c κs = search needs
 
 same-length-6 : tie.Need-same-length-6
-same-length-6 c = search needs
+same-length-6 c =
+    c .before .before .before .before .before .before .before .before .before .before .before .before .before
+    .before .before .before .«open» .kept .1 .0
 
 same-length-7 : tie.Need-same-length-7
-same-length-7 c = search needs
+same-length-7 c =
+    c .before .before .before .before .before .before .before .before .before .before .before .before .before
+    .before .before .before .«open» .kept .1 .1 .0
 
 same-length-8 : tie.Need-same-length-8
-same-length-8 c = search needs
+same-length-8 c =
+    c .before .before .before .before .before .before .before .before .before .before .before .before .before
+    .before .before .before .«open» .kept .1 .1 .1 .0
 
 same-length-9 : tie.Need-same-length-9
-same-length-9 c = search needs
+same-length-9 c =
+    c .before .before .before .before .before .before .before .before .before .before .before .before .before
+    .before .before .before .«open» .kept .1 .1 .1 .1 .0
 
 same-length-10 : tie.Need-same-length-10
-same-length-10 c = search needs
+same-length-10 c =
+    c .before .before .before .before .before .before .before .before .before .before .before .before .before
+    .before .before .before .«open» .kept .1 .1 .1 .1 .1 .0
 
 returns-2 : tie.Need-returns-2
 returns-2 c =
-    let b = c .before .before .before .before .before .before .before .before .before .before .before .before
-    .before .before .before .before .before .before .before .before .before .before .before .before .before .before
-    .before .before .before in
-    refused-files refl (omega arith)
-    (calls-too-long (c .before .before .before .before .before .before .before .before .before .before .before
-    .before .before .before .before .«open» .ensures) (c .before .if1 .left) (b .args .calls .now)
-    (omega (arith, c .if2 .taken)))
+    let judged = c .before .before in
+    let at-open = judged .before .before .before .before .before .before .before .before .before .before .before .before
+    .before .before in
+    let start = at-open .before .before .before .before .before .before .before .before .before .before .before .before
+    .before .before in
+    refused-files (c .refused2 .ensures) (omega arith)
+    (calls-too-long (at-open .«open» .ensures) (judged .if1 .left) (start .args .calls .now)
+    (omega (arith, c .before .if2 .taken)))
 
 carry-out-requires : tie.Need-carry-out-requires
 carry-out-requires c κs = search needs
@@ -134,12 +163,14 @@ carry-out-files-spec =
     tie.close
     (tie.spec
     open-requires
+    refused-requires
     same-length
     same-length-2
     same-length-3
     same-length-4
     same-length-5
     returns
+    refused-requires-2
     same-length-6
     same-length-7
     same-length-8
