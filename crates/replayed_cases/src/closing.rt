@@ -98,7 +98,58 @@ fn closing_short(
     refusal(replay, written.number, b"refused 61\n", out)
 }
 
-// What is compared on the closing books.
+// The closing books, in a buffer that they fill and in one that is too short, and the list that is expected on them.
+fn check_closing(
+    replay: Replay,
+    settings: Settings,
+    scalars: Scalars,
+    identities: &[u8],
+    validators: &[u64],
+    deposits: &[u64],
+    partials: &[u64],
+    consolidations: &[u64],
+    sections: &[u8],
+    out: &mut [u8; 319991],
+) -> Replay {
+    let r = closing(
+        replay,
+        settings,
+        scalars,
+        identities,
+        validators,
+        deposits,
+        partials,
+        consolidations,
+        sections,
+        out,
+    );
+    let s = closing_short(
+        r,
+        settings,
+        scalars,
+        identities,
+        validators,
+        deposits,
+        partials,
+        consolidations,
+        sections,
+        out,
+    );
+    expected::check_list(
+        s,
+        settings,
+        scalars,
+        identities,
+        validators,
+        deposits,
+        partials,
+        consolidations,
+        sections,
+        out,
+    )
+}
+
+// What is compared on the closing books; of books that were lent and refused, that they are unchanged.
 pub fn afterwards(
     replay: Replay,
     lent: bool,
@@ -135,32 +186,8 @@ pub fn afterwards(
             out,
         );
     }
-    let r = closing(
+    check_closing(
         replay,
-        settings,
-        scalars,
-        identities,
-        validators,
-        deposits,
-        partials,
-        consolidations,
-        sections,
-        out,
-    );
-    let s = closing_short(
-        r,
-        settings,
-        scalars,
-        identities,
-        validators,
-        deposits,
-        partials,
-        consolidations,
-        sections,
-        out,
-    );
-    expected::check_list(
-        s,
         settings,
         scalars,
         identities,
