@@ -8,17 +8,20 @@ use primitives::Scalars;
 use primitives::Settings;
 use primitives::ValidatorIndex;
 use primitives::WithdrawalIndex;
+use records::queues::PendingBalanceDeposit;
+use records::queues::PendingConsolidation;
+use records::queues::PendingPartialWithdrawal;
+use records::queues::consolidations_fit;
+use records::queues::deposits_fit;
+use records::queues::partials_fit;
+use records::queues::push_consolidation;
+use records::queues::push_deposit;
+use records::queues::push_partial;
 use records::registry::credentials_place;
 use records::registry::identities_fit;
 use records::registry::put_words;
 use records::registry::validators_fit;
 ghost use Prim.Native.Nat.{_+_, _<_, _≤_, _^_};
-
-fn put(table: &mut [u64], at: usize, n: u64) {
-    if at < table.len() {
-        table[at] = n;
-    }
-}
 
 fn number(file: &[u8], k: usize) -> u64
     requires { ⌜ k ≤ 2 ^ 40 ⌝ }
@@ -49,19 +52,6 @@ fn byte(file: &[u8], k: usize, j: usize) -> u8
         return (w / 256 % 256) as u8;
     }
     (w % 256) as u8
-}
-
-// n numbers from word k on.
-fn lay_numbers(file: &[u8], k: usize, n: usize, table: &mut [u64], at: usize)
-    requires { ⌜ k ≤ 2 ^ 38 ⌝ }
-    requires { ⌜ n ≤ 2 ^ 32 ⌝ }
-    requires { ⌜ at ≤ 2 ^ 40 ⌝ }
-{
-    let mut i: usize = 0;
-    while i < n {
-        put(table, at + i, number(file, k + i * 3));
-        i += 1;
-    }
 }
 
 // n bytes from word k on.
@@ -115,6 +105,88 @@ fn lay_validators(file: &[u8], n: usize, identities: &mut [u8], validators: &mut
         let k = 86 + i * 46;
         lay_identity(file, k, identities, i);
         lay_words(file, k, validators, i);
+        i += 1;
+    }
+}
+
+fn lay_deposit(file: &[u8], k: usize, deposits: &mut [u64], i: usize)
+    requires { ⌜ k ≤ 2 ^ 38 ⌝ }
+{
+    if deposits_fit(deposits) <= i {
+        return;
+    }
+    let index = ValidatorIndex(number(file, k) as usize);
+    let amount = Gwei(number(file, k + 3));
+    push_deposit(deposits, i, PendingBalanceDeposit { index, amount });
+}
+
+fn lay_deposits(file: &[u8], k: usize, n: usize, deposits: &mut [u64])
+    requires { ⌜ k ≤ 2 ^ 37 ⌝ }
+    requires { ⌜ n ≤ 2 ^ 28 ⌝ }
+{
+    let mut i: usize = 0;
+    while i < n {
+        lay_deposit(file, k + i * 6, deposits, i);
+        i += 1;
+    }
+}
+
+fn lay_partial(file: &[u8], k: usize, partials: &mut [u64], i: usize)
+    requires { ⌜ k ≤ 2 ^ 38 ⌝ }
+{
+    if partials_fit(partials) <= i {
+        return;
+    }
+    let index = ValidatorIndex(number(file, k) as usize);
+    let amount = Gwei(number(file, k + 3));
+    let withdrawable_epoch = Epoch(number(file, k + 6));
+    push_partial(
+        partials,
+        i,
+        PendingPartialWithdrawal {
+            index,
+            amount,
+            withdrawable_epoch,
+        },
+    );
+}
+
+fn lay_partials(file: &[u8], k: usize, n: usize, partials: &mut [u64])
+    requires { ⌜ k ≤ 2 ^ 37 ⌝ }
+    requires { ⌜ n ≤ 2 ^ 28 ⌝ }
+{
+    let mut i: usize = 0;
+    while i < n {
+        lay_partial(file, k + i * 9, partials, i);
+        i += 1;
+    }
+}
+
+fn lay_consolidation(file: &[u8], k: usize, consolidations: &mut [u64], i: usize)
+    requires { ⌜ k ≤ 2 ^ 38 ⌝ }
+{
+    if consolidations_fit(consolidations) <= i {
+        return;
+    }
+    let source_index = ValidatorIndex(number(file, k) as usize);
+    let target_index = ValidatorIndex(number(file, k + 3) as usize);
+    push_consolidation(
+        consolidations,
+        i,
+        PendingConsolidation {
+            source_index,
+            target_index,
+        },
+    );
+}
+
+fn lay_consolidations(file: &[u8], k: usize, n: usize, consolidations: &mut [u64])
+    requires { ⌜ k ≤ 2 ^ 37 ⌝ }
+    requires { ⌜ n ≤ 2 ^ 28 ⌝ }
+{
+    let mut i: usize = 0;
+    while i < n {
+        lay_consolidation(file, k + i * 6, consolidations, i);
         i += 1;
     }
 }
@@ -182,8 +254,8 @@ pub fn lay(
     let c = count(file, consolidations_place);
     let laid = scalars(file, v, d, p, c);
     lay_validators(file, v, identities, validators);
-    lay_numbers(file, deposits_place + 1, d * 2, deposits, 0);
-    lay_numbers(file, partials_place + 1, p * 3, partials, 0);
-    lay_numbers(file, consolidations_place + 1, c * 2, consolidations, 0);
+    lay_deposits(file, deposits_place + 1, d, deposits);
+    lay_partials(file, partials_place + 1, p, partials);
+    lay_consolidations(file, consolidations_place + 1, c, consolidations);
     laid
 }
