@@ -73,7 +73,7 @@ pub fn withdrawals_refusal(list: [Withdrawal; 16], n: usize, expected: ExpectedW
         ⌝ }
 {
     if same_withdrawals(list, n, expected) {
-        return 0;
+        return primitives::answers::DONE;
     }
     primitives::answers::WITHDRAWALS_NOT_EXPECTED
 }
