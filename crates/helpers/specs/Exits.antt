@@ -3,7 +3,7 @@ use mathlib.Core.Path.{_≡_, refl, sym, ap, _∙_}
 use mathlib.Core.List.{List}
 use Prim.Native.Nat.{ℕ, _+_, _≤_, _<_, _^_}
 use native.Mathlib.Omega.{arith}
-use borrow.Author.Tests.{eq-eqb, ne-eqb}
+use borrow.Author.Tests.{eq-eqb}
 use Rattle.lists.specs.Base.{if_then_else_, adjust}
 use Rattle.rules.specs.Types.{FAR, BOUND, Settings, Validator, Books}
 use Rattle.rules.specs.Update.{with-exit, with-exit-churn, with-validators}
@@ -16,7 +16,7 @@ use Rattle.primitives.specs.declared.Scalars.{Scalars}
 use Rattle.primitives.specs.Scalars as scalars
 use Rattle.records.specs.Layout.{exit-epoch-at}
 use Rattle.records.specs.Stores.{ValidatorAdjusted}
-use Rattle.records.specs.Books.{Tables, tables, books-of, Stepped, beyond-none}
+use Rattle.records.specs.Books.{Tables, tables, books-of, Stepped}
 use Rattle.records.specs.Reading.{validator-read}
 
 -- ---- assignments
@@ -57,10 +57,6 @@ begin-exit S i a b =
     with-exit-churn (a .left) (a .epoch) (with-validators (adjust i exiting (b .validators)) b)
 
 module _ (S : Settings) (i : ℕ) (b : Books) where
-  exit-kept : (at (b .validators) i .exit-epoch ≡ FAR → ⊥) → initiate-validator-exit S i b ≡ b
-  unfolding initiate-validator-exit if_then_else_
-  exit-kept h = rw (ne-eqb (at (b .validators) i .exit-epoch) FAR h)
-
   pub exit-in-steps : at (b .validators) i .exit-epoch ≡ FAR
       → initiate-validator-exit S i b ≡ begin-exit S i (exit-assignment S i b) b
   unfolding initiate-validator-exit begin-exit exit-assignment if_then_else_
@@ -70,12 +66,6 @@ module _ (S : Settings) (i : ℕ) (b : Books) where
 module _ (S : Settings) (i : ℕ) (s : Scalars) (t : Tables) (h : i < s .validators) where
   read : at (books-of s t .validators) i .exit-epoch ≡ exit-epoch-at (t .validators) i
   read = ap (λ (v : Validator). v .exit-epoch) (validator-read s t i h)
-
-  pub exit-not-begun : (exit-epoch-at (t .validators) i ≡ FAR → ⊥) → Stepped (initiate-validator-exit S i) s t t s
-  exit-not-begun n = record {
-    books = sym (exit-kept S i (books-of s t) (λ e. n (sym read ∙ e)));
-    beyond = beyond-none s t;
-  }
 
   pub exit-whole : {a : Assignment} {u : Tables} {r : Scalars} → exit-epoch-at (t .validators) i ≡ FAR
       → a ≡ exit-assignment S i (books-of s t) → Stepped (begin-exit S i a) s t u r

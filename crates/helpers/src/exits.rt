@@ -2,7 +2,6 @@
 // and lent in `churn_account`; it is handed on by value, so that a caller can judge its epochs before the first store.
 use crate::assignment::Assignment;
 use primitives::Epoch;
-use primitives::FAR_FUTURE_EPOCH;
 use primitives::Gwei;
 use primitives::Scalars;
 use primitives::Settings;
@@ -12,9 +11,8 @@ ghost use mathlib.Core.Bool.{true};
 ghost use mathlib.Core.List.{List};
 ghost use Prim.Native.Nat.{ℕ, _+_, _<_, _≤_, _^_};
 ghost use Rattle.rules.specs.Types.{FAR, BOUND};
-ghost use Rattle.rules.specs.Helpers.{get-consolidation-churn-limit, assign-epoch, compute-activation-exit-epoch};
+ghost use Rattle.rules.specs.Helpers.{assign-epoch, compute-activation-exit-epoch};
 ghost use Rattle.rules.specs.Helpers.{compute-exit-epoch-and-update-churn};
-ghost use Rattle.rules.specs.Helpers.{compute-consolidation-epoch-and-update-churn, initiate-validator-exit};
 ghost use Rattle.rules.specs.Acceptance.{sound-settings};
 ghost use Rattle.primitives.specs.Settings.{settings-of};
 ghost use Rattle.records.specs.Layout.{validators-fit};
@@ -108,35 +106,8 @@ pub fn assign_consolidation_epoch(
     assign_account(settings, scalars, left, earliest, churn, amount)
 }
 
-// The consolidations' churn account after a consolidation of `amount`.
-pub fn compute_consolidation_epoch_and_update_churn(
-    settings: Settings,
-    scalars: Scalars,
-    validators: &[u64],
-    amount: Gwei,
-) -> Assignment
-    requires { ⌜ sound-settings (settings-of settings) ≡ true ⌝ }
-    requires { ⌜ Registry scalars (now validators) ⌝ }
-    requires { ⌜ Accounts scalars ⌝ }
-    requires { ⌜ amount .0 ≤ BOUND ⌝ }
-    requires { ⌜
-        ((ids ds ps cs : List ℕ)
-        → 0 < get-consolidation-churn-limit (settings-of settings)
-        (books-of scalars (tables ids (now validators) ds ps cs)))
-        ⌝ }
-    ensures { λ r. ⌜
-        ((ids ds ps cs : List ℕ)
-        → plain-assignment r
-        ≡ compute-consolidation-epoch-and-update-churn (settings-of settings)
-        (books-of scalars (tables ids (now (validators .entry)) ds ps cs)) (amount .0))
-        ⌝ }
-    ensures { λ r. ⌜ r .epoch .0 + 2 ^ 16 < FAR ⌝ }
-{
-    let churn = crate::churn::get_consolidation_churn_limit(settings, scalars, validators);
-    assign_consolidation_epoch(settings, scalars, churn, amount)
-}
-
-// ---- the exit of a validator
+// ---- the exit of a validator: `assign_exit` and `begin_exit` are the halves of initiate_validator_exit, apart because
+// answer 42 is judged between them, on `withdrawable_epoch`
 
 // What the exit of validator i is assigned.
 pub fn assign_exit(
@@ -188,28 +159,4 @@ pub fn begin_exit(
     let withdrawable = withdrawable_epoch(settings, a);
     records::registry::set_exit(validators, i, a.epoch, withdrawable);
     scalars.with_exit_churn(a.left, a.epoch)
-}
-
-pub fn initiate_validator_exit(
-    settings: Settings,
-    scalars: Scalars,
-    validators: &mut [u64],
-    i: ValidatorIndex,
-) -> Scalars
-    requires { ⌜ sound-settings (settings-of settings) ≡ true ⌝ }
-    requires { ⌜ Registry scalars (now validators) ⌝ }
-    requires { ⌜ Accounts scalars ⌝ }
-    requires { ⌜ i .0 < scalars .validators ⌝ }
-    ensures { λ r. ⌜
-        ((ids ds ps cs : List ℕ)
-        → Stepped (initiate-validator-exit (settings-of settings) (i .0)) scalars
-        (tables ids (now (validators .entry)) ds ps cs) (tables ids (now (validators .exit)) ds ps cs) r)
-        ⌝ }
-{
-    let exit = records::registry::exit_epoch_at(validators, i);
-    if exit.0 != FAR_FUTURE_EPOCH {
-        return scalars;
-    }
-    let a = assign_exit(settings, scalars, validators, i);
-    begin_exit(settings, scalars, validators, i, a)
 }
