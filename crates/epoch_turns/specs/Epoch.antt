@@ -10,15 +10,14 @@ use Rattle.rules.specs.Types as rule
 use Rattle.rules.specs.Types.{BOUND}
 use Rattle.rules.specs.EpochProcessing as steps
 use Rattle.rules.specs.Calls as calls
-use Rattle.rules.specs.Acceptance.{sound-settings, sound-books}
-use Rattle.rules.specs.Calls.{enough-room, handed-refusal, own-refusal, result}
+use Rattle.rules.specs.Calls.{handed-refusal, own-refusal, result}
 use Rattle.rule_laws.specs.Accepted.{SoundSettings, SoundBooks}
 use Rattle.primitives.specs.Settings.{settings-of}
 use Rattle.primitives.specs.declared.Settings.{Settings}
 use Rattle.primitives.specs.declared.Scalars.{Scalars}
 use Rattle.records.specs.Books.{Tables, books-of, room-of, Stepped, Called}
 use Rattle.records.specs.Reading.{EnoughRoom}
-use Rattle.acceptance.specs.Handed.{facts, accepted}
+use Rattle.acceptance.specs.Handed.{facts}
 use Rattle.helpers.specs.Ready.{Registry, registry-ready}
 use Rattle.queue_room.specs.Ready as room-ready
 use Rattle.queue_room.specs.Ready.{RegistryReady, ConsolidationsReady, QueueReady, DepositsReady, AllowanceReady}
@@ -37,15 +36,6 @@ module _ (S : rule.Settings) (s : Scalars) (t : Tables) (h : handed-refusal S (b
   limit = S .pending-balance-deposits-limit
 
   -- ---- what the cores ask
-
-  pub settings-true : sound-settings S ≡ true
-  settings-true = accepted S b (room-of t) h .settings
-
-  pub room-true : enough-room S (room-of t) ≡ true
-  room-true = accepted S b (room-of t) h .room
-
-  pub books-true : sound-books S b ≡ true
-  books-true = accepted S b (room-of t) h .books
 
   pub registry-known : Registry s (t .validators)
   registry-known = let f = facts S s t h in registry-ready S s t (f .settings) (f .room) (f .books)

@@ -36,9 +36,6 @@ module _ (S : rule.Settings) (s : Scalars) (t : Tables) (i amount : ℕ)
       let f = facts S s t h in
       omega (arith, p, f .room .validators, f .books .registry-fits, validators-count s t)
 
-  pub held-small : held (books-of s t) ≤ BOUND
-  held-small = facts S s t h .books .held-small
-
   -- a reward that keeps the sum within the bound fits the balance
   pub balance-fits : i < s .validators → held (books-of s t) + amount ≤ BOUND
       → balance-at (t .validators) i + amount < 2 ^ 64

@@ -10,8 +10,8 @@ use Rattle.rules.specs.EpochProcessing as steps
 use Rattle.rules.specs.Helpers.{get-activation-exit-churn-limit}
 use Rattle.primitives.specs.Settings.{settings-of}
 use Rattle.records.specs.Books.{tables, books-of}
-use Rattle.epoch_turns.specs.Epoch.{settings-true, room-true, books-true, registry-known}
-use Rattle.epoch_turns.specs.Epoch.{turn-over, turn-late, turn-done}
+use Rattle.acceptance.specs.Handed.{accepted}
+use Rattle.epoch_turns.specs.Epoch.{registry-known, turn-over, turn-late, turn-done}
 use Rattle.epoch_turns.specs.Epoch.{registry-there, consolidations-there, queue-there}
 use Rattle.epoch_turns.specs.Epoch.{deposits-there, allowance-there}
 use Rattle.epoch_turns.proofs.turn_accepted.Statement.{statement}
@@ -52,7 +52,7 @@ fits c = sym (c .turn-fits .ensures (c .before .before .before .before .before .
 
 get-activation-exit-churn-limit-requires : tie.Need-get-activation-exit-churn-limit-requires
 get-activation-exit-churn-limit-requires c κs = let h = c .before .before .before .before .before .before .pre in
-    (settings-true _ _ _ h, registry-known _ _ _ h)
+    (accepted _ _ _ h .settings, registry-known _ _ _ h)
 
 turn-fits-requires : tie.Need-turn-fits-requires
 turn-fits-requires c κs =
@@ -107,11 +107,11 @@ turn-requires c κs =
     let start = c .before .before .before .before .before .before .before .before .before .before .before .before
     .before .before .before .before .before .before .before in
     let h = start .pre in (
-      settings-true _ _ _ h,
+      accepted _ _ _ h .settings,
       (
-        room-true _ _ _ h,
+        accepted _ _ _ h .room,
         (
-          books-true _ _ _ h,
+          accepted _ _ _ h .books,
           (
             allowed (c .before .before .before .before .before .before .before .before .before .before .before
                 .before) (start .args .partials .now),

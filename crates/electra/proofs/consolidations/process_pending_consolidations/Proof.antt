@@ -1,8 +1,9 @@
 use mathlib.Core.Path.{sym, _∙_}
 use borrow.Author.Needs.{needs}
 use borrow.Author.Tests.{leb-true, not-true, not-false}
+use Rattle.acceptance.specs.Handed.{accepted}
 use Rattle.call_answers.specs.Called.{handed-refused}
-use Rattle.epoch_turns.specs.Epoch.{room-true, books-true, consolidations-over, consolidations-done}
+use Rattle.epoch_turns.specs.Epoch.{consolidations-over, consolidations-done}
 use Rattle.epoch_turns.specs.Epoch.{registry-there, consolidations-there, queue-there}
 use Rattle.electra.proofs.consolidations.process_pending_consolidations.Statement.{statement}
 use Rattle.electra.proofs.consolidations.process_pending_consolidations.Tie as tie
@@ -55,9 +56,9 @@ process-pending-consolidations-requires : tie.Need-process-pending-consolidation
 process-pending-consolidations-requires c κs =
     let h = (sym (c .before .before .before .before .before .before .before .before .before .before .handed
     .ensures) ∙ c .before .before .before .before .before .before .before .before .before .if1 .left) in (
-      room-true _ _ _ h,
+      accepted _ _ _ h .room,
       (
-        books-true _ _ _ h,
+        accepted _ _ _ h .books,
         leb-true _ _ (sym (c .before .before .before .before .before .consolidations-fit .ensures (c .before .before
             .before .before .before .before .before .before .before .before .before .before .before
             .before .before .before

@@ -1,7 +1,8 @@
 use mathlib.Core.Path.{sym, _∙_}
 use borrow.Author.Needs.{needs}
+use Rattle.acceptance.specs.Handed.{accepted}
 use Rattle.call_answers.specs.Called.{handed-refused}
-use Rattle.epoch_turns.specs.Epoch.{settings-true, room-true, books-true, registry-known, deposits-done}
+use Rattle.epoch_turns.specs.Epoch.{registry-known, deposits-done}
 use Rattle.electra.proofs.deposits.process_pending_balance_deposits.Statement.{statement}
 use Rattle.electra.proofs.deposits.process_pending_balance_deposits.Tie as tie
 
@@ -20,17 +21,17 @@ returns c = handed-refused _ _ _ _ _ (c .before .handed .ensures) (c .if1 .taken
 get-activation-exit-churn-limit-requires : tie.Need-get-activation-exit-churn-limit-requires
 get-activation-exit-churn-limit-requires c κs =
     let h = (sym (c .before .before .handed .ensures) ∙ c .before .if1 .left) in
-    (settings-true _ _ _ h, registry-known _ _ _ h)
+    (accepted _ _ _ h .settings, registry-known _ _ _ h)
 
 process-pending-balance-deposits-requires : tie.Need-process-pending-balance-deposits-requires
 process-pending-balance-deposits-requires c κs =
     let h = (sym (c .before .before .before .before .before .handed .ensures) ∙ c .before .before .before .before
     .if1 .left) in (
-      settings-true _ _ _ h,
+      accepted _ _ _ h .settings,
       (
-        room-true _ _ _ h,
+        accepted _ _ _ h .room,
         (
-          books-true _ _ _ h,
+          accepted _ _ _ h .books,
           c .before .before .get-activation-exit-churn-limit .ensures (c .before .before .before
               .before .before .before
               .before .before .before .before .before .before .before .args .identities .now) (c

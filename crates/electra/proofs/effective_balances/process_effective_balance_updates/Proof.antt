@@ -1,7 +1,8 @@
 use mathlib.Core.Path.{sym, _∙_}
 use borrow.Author.Needs.{needs}
+use Rattle.acceptance.specs.Handed.{accepted}
 use Rattle.call_answers.specs.Called.{handed-refused}
-use Rattle.epoch_turns.specs.Epoch.{settings-true, updates-known, effective-done}
+use Rattle.epoch_turns.specs.Epoch.{updates-known, effective-done}
 use Rattle.electra.proofs.effective_balances.process_effective_balance_updates.Statement.{statement}
 use Rattle.electra.proofs.effective_balances.process_effective_balance_updates.Tie as tie
 use Rattle.epoch_processing.proofs.effective_balances.process_effective_balance_updates.Reads as
@@ -19,7 +20,7 @@ returns c = handed-refused _ _ _ _ _ (c .before .handed .ensures) (c .if1 .taken
 process-effective-balance-updates-requires : tie.Need-process-effective-balance-updates-requires
 process-effective-balance-updates-requires c κs =
     let h = (sym (c .before .before .handed .ensures) ∙ c .before .if1 .left) in
-    (settings-true _ _ _ h, updates-known _ _ _ h)
+    (accepted _ _ _ h .settings, updates-known _ _ _ h)
 
 same-length-2 : tie.Need-same-length-2
 same-length-2 c = search needs

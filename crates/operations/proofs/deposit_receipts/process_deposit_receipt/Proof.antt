@@ -8,9 +8,9 @@ use Rattle.rules.specs.Acceptance.{held}
 use Rattle.rules.specs.Calls.{handed-refusal}
 use Rattle.primitives.specs.Settings.{settings-of}
 use Rattle.records.specs.Books.{Tables, tables, books-of, room-of}
+use Rattle.acceptance.specs.Handed.{facts}
 use Rattle.acceptance.specs.Total.{total-held}
 use Rattle.call_answers.specs.Called.{handed-refused}
-use Rattle.rewards.specs.Rewards.{held-small}
 use Rattle.operations.proofs.deposit_receipts.process_deposit_receipt.Statement.{statement}
 use Rattle.operations.proofs.deposit_receipts.process_deposit_receipt.Tie as tie
 
@@ -48,7 +48,7 @@ module _ (c : tie.Else1) where
   summed = total-held _ _ _ accepted (c .before .before .accept .ensures .1)
 
   small : c .before .before .accept .result .held .0 ≤ BOUND
-  small = omega (arith, summed, held-small _ _ _ 0 0 accepted)
+  small = omega (arith, summed, facts _ _ _ accepted .books .held-small)
 
 sum-within-requires : tie.Need-sum-within-requires
 sum-within-requires c κs = small c

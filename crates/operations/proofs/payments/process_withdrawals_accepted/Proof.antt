@@ -7,8 +7,8 @@ use Rattle.rules.specs.Types.{BOUND, Books, Withdrawal}
 use Rattle.rules.specs.BlockProcessing.{withdrawals-refusal, next-index}
 use Rattle.primitives.specs.Settings.{settings-of}
 use Rattle.records.specs.Books.{Tables, tables, books-of}
+use Rattle.acceptance.specs.Handed.{accepted}
 use Rattle.expected_withdrawals.specs.Expected.{expected-of, handed-list}
-use Rattle.epoch_turns.specs.Epoch.{settings-true, room-true, books-true}
 use Rattle.operations.specs.Payments.{listing-ready, listed-count, paying-ready}
 use Rattle.operations.specs.Payments.{expected-same, payments-refused, payments-late, payments-done}
 use Rattle.operations.proofs.payments.process_withdrawals_accepted.Statement.{statement}
@@ -86,11 +86,11 @@ process-withdrawals-requires : tie.Need-process-withdrawals-requires
 process-withdrawals-requires c κs =
     let h = c .before .before .before .before .before .before .before .before .before .before .before .before .before
     .before .before .pre in (
-      settings-true _ _ _ h,
+      accepted _ _ _ h .settings,
       (
-        room-true _ _ _ h,
+        accepted _ _ _ h .room,
         (
-          books-true _ _ _ h,
+          accepted _ _ _ h .books,
           (
             listed (c .before .before .before .before .before .before .before),
             expected-same _ _ _ _ h (sym (compared
