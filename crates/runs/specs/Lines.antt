@@ -1,13 +1,13 @@
 -- The outcome of each call of a list as a line: its code in a calls file, its answer, and the sum that the books hold
 -- after it; and the lines as numbers, three of each.
 use mathlib.Core.Path.{_≡_, refl, ap}
-use mathlib.Core.List.{List, [], _∷_, _++_, map}
-use Prim.Native.Nat.{ℕ, zero, suc, _+_, _*_, _<_}
+use mathlib.Core.List.{List, [], _∷_}
+use Prim.Native.Nat.{ℕ, suc, _+_, _*_}
 use native.Mathlib.Omega.{arith}
-use lib.ListN.{length, getD, set}
+use lib.ListN.{length, set}
 use Rattle.rules.specs.Types.{Settings, Books}
 use Rattle.rules.specs.Acceptance.{held}
-use Rattle.rules.specs.Calls.{Call, answer, after, answers}
+use Rattle.rules.specs.Calls.{Call, answer, after}
 use Rattle.file_format.specs.Calls.{written}
 use Rattle.table_text.specs.Lines.{Line, lines-words}
 
@@ -26,23 +26,9 @@ with-line results i code answer total =
 
 -- ---- their laws
 
-pub lines-answers : (S : Settings) (b : Books) (cs : List Call) → map (λ l. l .answer) (lines S b cs) ≡ answers S b cs
-lines-answers S b [] = refl
-lines-answers S b (c ∷ cs) = ap (_∷_ (answer S b c)) (lines-answers S (after S b c) cs)
-
 pub lines-length : (S : Settings) (b : Books) (cs : List Call) → length (lines S b cs) ≡ length cs
 lines-length S b [] = refl
 lines-length S b (c ∷ cs) = ap suc (lines-length S (after S b c) cs)
-
--- the answer in line i
-pub line-answer : (ls : List Line) (rest : List ℕ) (i : ℕ) → i < length ls
-    → getD (lines-words ls ++ rest) (3 * i + 1) 0 ≡ getD (map (λ l. l .answer) ls) i 0
-line-answer [] rest i h = let z : ⊥ = omega arith in absurd z
-line-answer (l ∷ ls) rest zero h = refl
-line-answer (l ∷ ls) rest (suc i) h =
-    let e : 3 * suc i + 1 ≡ suc (suc (suc (3 * i + 1))) = omega arith in
-    let k : i < length ls = omega arith in
-    rw e (line-answer ls rest i k)
 
 pub lines-words-length : (ls : List Line) → length (lines-words ls) ≡ 3 * length ls
 lines-words-length [] = refl

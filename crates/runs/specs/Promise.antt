@@ -1,23 +1,23 @@
 -- What carrying out a calls file on lent books promises, and what follows from it.
-use mathlib.Core.Path.{_≡_, refl, sym, ap, _∙_}
+use mathlib.Core.Path.{_≡_, refl, sym, _∙_}
 use mathlib.Core.Bool.{not}
 use mathlib.Core.List.{List}
 use mathlib.Core.Option.{Option, some, none}
-use Prim.Native.Nat.{ℕ, zero, suc, _+_, _*_, _<_}
+use Prim.Native.Nat.{ℕ, zero, suc, _*_}
 use native.Mathlib.Omega.{arith}
-use lib.ListN.{length, getD, drop, length-map}
+use lib.ListN.{length}
 use lib.Dec.{ltb, eqb}
 use borrow.Author.Tests.{ne-eqb}
 use Rattle.lists.specs.Base.{if_then_else_}
 use Rattle.rules.specs.Types.{Settings, Books}
-use Rattle.rules.specs.Calls.{Operation, Room, handed-refusal, answers, run}
+use Rattle.rules.specs.Calls.{Operation, Room, handed-refusal, run}
 use Rattle.primitives.specs.declared.Scalars.{Scalars}
-use Rattle.records.specs.Books.{Tables, books-of, room-of, call-on}
+use Rattle.records.specs.Books.{Tables, books-of, room-of}
 use Rattle.carried.specs.Carried.{Demand3Carried}
 use Rattle.file_format.specs.File.{read-calls}
 use Rattle.file_format.specs.Answers.{over}
 use Rattle.table_text.specs.Lines.{lines-words}
-use Rattle.runs.specs.Lines.{lines, lines-answers, lines-length, line-answer}
+use Rattle.runs.specs.Lines.{lines}
 use Rattle.runs.specs.InPlace.{InPlace, calls-on, in-place-books, in-place-demand-3, in-place-fixed}
 
 -- ---- the answer
@@ -56,17 +56,6 @@ module _ {S : Settings} {s r : Scalars} {t u : Tables} {os : List Operation} {be
     (d : Done S s t u os before after r count) where
   pub done-books : books-of r u ≡ run S (books-of s t) (calls-on t os)
   done-books = in-place-books (d .chain)
-
-  -- the answer in line i
-  pub done-answer : (i : ℕ) → i < length os
-      → getD after (3 * i + 1) 0 ≡ getD (answers S (books-of s t) (calls-on t os)) i 0
-  done-answer i h =
-      let cs = calls-on t os in
-      let ls = lines S (books-of s t) cs in
-      let k : i < length ls = omega (arith, lines-length S (books-of s t) cs, length-map os (call-on t)) in
-      ap (λ l. getD l (3 * i + 1) 0) (d .results)
-      ∙ line-answer ls (drop (length (lines-words ls)) before) i k
-      ∙ ap (λ l. getD l i 0) (lines-answers S (books-of s t) cs)
 
   pub done-demand-3 : Demand3Carried S (books-of s t) (calls-on t os) (books-of r u)
   done-demand-3 = in-place-demand-3 (d .chain)

@@ -88,13 +88,6 @@ pub settings-read : (xs : List ℕ) → settings-in (rows 19 (λ k. getD xs k 0)
 unfolding rows
 settings-read xs = refl
 
--- settings that were stored are read back
-pub settings-stored : (xs : List ℕ) (s : Settings) → settings-in (with-settings xs s) ≡ s
-settings-stored xs s = refl
-
-pub past-settings : (xs : List ℕ) (s : Settings) → drop 19 (with-settings xs s) ≡ drop 19 xs
-past-settings xs s = refl
-
 -- scalars that were stored are read back
 pub scalars-stored : (xs : List ℕ) (s : Scalars) → scalars-in (with-scalars xs s) ≡ s
 scalars-stored xs s = refl
