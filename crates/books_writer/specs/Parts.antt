@@ -14,8 +14,9 @@ use Rattle.file_format.specs.Books.{books, books-format}
 use Rattle.file_format.specs.PutLaws.{put}
 use Rattle.file_stores.specs.Laws.{put-next, put-length}
 
-abbrev pub scalar-numbers : Scalars → List ℕ
-scalar-numbers s =
+-- the scalars of the front: each count stands before its list
+abbrev pub front-scalars : Scalars → List ℕ
+front-scalars s =
     s .epoch .0
     ∷ s .«next_withdrawal_index» .0
     ∷ s .«next_withdrawal_validator_index» .0
@@ -30,7 +31,7 @@ scalar-numbers s =
 -- head, settings and scalars
 unfoldable pub front-words : rule.Settings → Scalars → List ℕ
 front-words S s =
-    word 1 books-head ∷ (each (number .write) (settings-numbers S) ++ each (number .write) (scalar-numbers s))
+    word 1 books-head ∷ (each (number .write) (settings-numbers S) ++ each (number .write) (front-scalars s))
 
 pub front-length : (S : rule.Settings) (s : Scalars) → length (front-words S s) ≡ 85
 unfolding front-words number
@@ -38,14 +39,14 @@ front-length S s = refl
 
 -- the head, then the settings, then the scalars
 pub front-put : (out o₁ o₂ o₃ xs ys : List ℕ) (S : rule.Settings) (s : Scalars) → 85 * 4 ≤ length out
-    → xs ≡ settings-numbers S → ys ≡ scalar-numbers s → o₁ ≡ put out 0 (0x10000001 ∷ [])
+    → xs ≡ settings-numbers S → ys ≡ front-scalars s → o₁ ≡ put out 0 (0x10000001 ∷ [])
     → o₂ ≡ put o₁ 1 (each (number .write) xs) → o₃ ≡ put o₂ 58 (each (number .write) ys)
     → o₃ ≡ put out 0 (front-words S s)
 unfolding front-words number
 front-put out o₁ o₂ o₃ xs ys S s h p q e f g =
     let head = word 1 books-head ∷ [] in
     let first = each (number .write) (settings-numbers S) in
-    let second = each (number .write) (scalar-numbers s) in
+    let second = each (number .write) (front-scalars s) in
     let l : length o₁ ≡ length out = put-length out o₁ 0 head e (omega arith) in
     let f' = f ∙ ap (λ zs. put o₁ 1 (each (number .write) zs)) p in
     let g' = g ∙ ap (λ zs. put o₂ 58 (each (number .write) zs)) q in

@@ -7,7 +7,7 @@ ghost use lib.ListN.{length};
 ghost use Rattle.primitives.specs.Settings.{settings-of};
 ghost use Rattle.file_format.specs.Books.{settings-numbers};
 ghost use Rattle.file_format.specs.PutLaws.{put};
-ghost use Rattle.books_writer.specs.Parts.{scalar-numbers, front-words};
+ghost use Rattle.books_writer.specs.Parts.{front-scalars, front-words};
 
 fn settings_numbers(settings: Settings) -> [u64; 19]
     ensures { λ r. ⌜ r ≡ settings-numbers (settings-of settings) ⌝ }
@@ -35,8 +35,8 @@ fn settings_numbers(settings: Settings) -> [u64; 19]
     ]
 }
 
-fn scalar_numbers(scalars: Scalars) -> [u64; 9]
-    ensures { λ r. ⌜ r ≡ scalar-numbers scalars ⌝ }
+fn front_scalars(scalars: Scalars) -> [u64; 9]
+    ensures { λ r. ⌜ r ≡ front-scalars scalars ⌝ }
 {
     [
         scalars.epoch.0,
@@ -56,7 +56,7 @@ pub fn put_front(out: &mut [u8], settings: Settings, scalars: Scalars)
     ensures { λ _. ⌜ now (out .exit) ≡ put (now (out .entry)) 0 (front-words (settings-of settings) scalars) ⌝ }
 {
     let first = settings_numbers(settings);
-    let second = scalar_numbers(scalars);
+    let second = front_scalars(scalars);
     file_stores::put_word(out, 0, 0x1000_0001);
     file_stores::put_numbers(out, 1, &first);
     file_stores::put_numbers(out, 58, &second);

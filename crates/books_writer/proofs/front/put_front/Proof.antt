@@ -6,8 +6,8 @@ use Rattle.books_writer.proofs.front.put_front.Tie as tie
 settings-numbers-requires : tie.Need-settings-numbers-requires
 settings-numbers-requires c κs = search needs
 
-scalar-numbers-requires : tie.Need-scalar-numbers-requires
-scalar-numbers-requires c κs = search needs
+front-scalars-requires : tie.Need-front-scalars-requires
+front-scalars-requires c κs = search needs
 
 put-word-requires : tie.Need-put-word-requires
 put-word-requires c κs = search needs
@@ -34,7 +34,7 @@ returns c =
     let first = second .before .before .before .before .before in
     let scalars = first .before .before in
     front-put _ _ _ _ _ _ _ _ (search needs) (scalars .before .settings-numbers .ensures)
-    (scalars .scalar-numbers .ensures) (first .put-word .ensures) (second .put-numbers .ensures)
+    (scalars .front-scalars .ensures) (first .put-word .ensures) (second .put-numbers .ensures)
     (third .put-numbers2 .ensures)
 
 pub put-front-spec : {M : Type 1} → statement M
@@ -42,7 +42,7 @@ put-front-spec =
     tie.close
     (tie.spec
     settings-numbers-requires
-    scalar-numbers-requires
+    front-scalars-requires
     put-word-requires
     slice-aggregate-put-numbers
     put-numbers-requires
