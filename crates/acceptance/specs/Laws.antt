@@ -8,7 +8,7 @@ use lib.ListN.{drop}
 use lib.Dec.{leb}
 use borrow.Author.Tests.{leb-true, leb-false, le-leb, lt-leb}
 use Rattle.lists.specs.Base.{all, total, every}
-use Rattle.lists.specs.Laws.{both, join, and-true, and-false, if-true, if-false}
+use Rattle.lists.specs.Laws.{both, join, and-true, and-false, and-assoc, same-test, if-true, if-false}
 use Rattle.tables.specs.Rows.{rows, drop-rows-at, drop-rows-end}
 use Rattle.rules.specs.Types.{BOUND}
 use Rattle.acceptance.specs.Tests.{tested-sum}
@@ -20,20 +20,10 @@ abbrev pub chain : Bool → List Bool → Bool
 chain t [] = t
 chain t (u ∷ us) = chain (t && u) us
 
-and-assoc : (s t u : Bool) → (s && t && u) ≡ (s && (t && u))
-and-assoc true t u = refl
-and-assoc false t u = refl
-
 pub chained : (t : Bool) (ts : List Bool) → chain t ts ≡ all (t ∷ ts)
 unfolding all
 chained t [] = sym (and-true t)
-chained t (u ∷ us) = chained (t && u) us ∙ and-assoc t u (all us)
-
--- two tests that pass together
-pub same-test : (s t : Bool) → (s ≡ true → t ≡ true) → (t ≡ true → s ≡ true) → s ≡ t
-same-test true t f g = sym (f refl)
-same-test false true f g = g refl
-same-test false false f g = refl
+chained t (u ∷ us) = chained (t && u) us ∙ sym (and-assoc t u (all us))
 
 -- within both of two numbers
 pub leb-both : (a m n : ℕ) → (leb a m && leb a n) ≡ leb a (min m n)
@@ -65,14 +55,6 @@ every-both t u (x ∷ xs) e =
     let tests = both (t x) (u x) (here .0) in
     let rest = every-both t u xs (here .1) in
     (join (tests .0) (rest .0), join (tests .1) (rest .1))
-
-pub every-join : {A : Type 0} (t u : A → Bool) (xs : List A)
-    → every t xs ≡ true → every u xs ≡ true → every (λ x. t x && u x) xs ≡ true
-every-join t u [] p q = refl
-every-join t u (x ∷ xs) p q =
-    let s = both (t x) (every t xs) p in
-    let r = both (u x) (every u xs) q in
-    join (join (s .0) (r .0)) (every-join t u xs (s .1) (r .1))
 
 -- ---- sums that are tested
 

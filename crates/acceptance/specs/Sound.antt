@@ -7,7 +7,7 @@ use native.Mathlib.Omega.{arith}
 use lib.ListN.{length}
 use borrow.Author.Tests.{ltb-true, leb-true, le-leb, lt-ltb}
 use Rattle.lists.specs.Base.{every}
-use Rattle.lists.specs.Laws.{nth, all-none, all-more}
+use Rattle.lists.specs.Laws.{nth, all-none, all-more, every-join, same-test}
 use Rattle.tables.specs.Tests.{not-so}
 use Rattle.rules.specs.Types.{BOUND, Settings, Books, Validator}
 use Rattle.rules.specs.Types.{PendingBalanceDeposit, PendingPartialWithdrawal, PendingConsolidation}
@@ -17,7 +17,7 @@ use Rattle.rules.specs.Acceptance.{deposit-in, partial-in, partial-epoch-within
 use Rattle.rule_laws.specs.Accepted.{SoundBooks, books-sound, books-sound-so}
 use Rattle.primitives.specs.declared.Scalars.{Scalars}
 use Rattle.acceptance.specs.Tests.{validator-within, partial-within, scalars-within, tested-sum}
-use Rattle.acceptance.specs.Laws.{every-both, every-join, same-test, tested-within, tested-facts}
+use Rattle.acceptance.specs.Laws.{every-both, tested-within, tested-facts}
 
 -- ---- scalars
 

@@ -8,6 +8,7 @@ use native.Mathlib.Omega.{arith}
 use lib.ListN.{length, getD, drop}
 use lib.Seq.{drop-drop}
 use lib.Dec.{eqb}
+use Rattle.lists.specs.Laws.{and-assoc}
 use Rattle.file_format.specs.Words.{words, is-word}
 use Rattle.file_format.specs.Fields.{number, flag, field, many}
 use Rattle.file_format.specs.Books.{validator, deposit, partial, consolidation, books-format}
@@ -16,7 +17,7 @@ use Rattle.file_format.specs.Places.{count-at, list-end, listed-ok}
 use Rattle.file_format.specs.Places.{deposits-place, partials-place, consolidations-place, end-place}
 use Rattle.file_format.specs.AccessLaws.{fixed-at, fixed-number, fixed-flag, fixed-key, fixed-credentials}
 use Rattle.file_format.specs.AccessLaws.{fixed-deposit, fixed-partial, fixed-consolidation}
-use Rattle.file_format.specs.AccessLaws.{and-assoc, many-split, many-numbers}
+use Rattle.file_format.specs.AccessLaws.{many-split, many-numbers}
 use Rattle.file_format.specs.PlacesLaws.{books-ok, books-rest}
 
 -- ---- a validator

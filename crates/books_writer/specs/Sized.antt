@@ -1,13 +1,13 @@
 -- Keys of 48 bytes and credentials of 32, from a lent table of bytes.
 use mathlib.Core.Path.{_≡_, refl}
-use mathlib.Core.Bool.{Bool, true}
+use mathlib.Core.Bool.{true}
 use mathlib.Core.List.{List, [], _∷_}
-use Prim.Native.Nat.{ℕ, zero, suc, _+_, _*_, _≤_, _<_, _^_}
+use Prim.Native.Nat.{ℕ, suc, _+_, _*_, _≤_, _<_, _^_}
 use native.Mathlib.Omega.{arith}
 use lib.ListN.{length, getD, take, drop, length-take, length-drop}
 use borrow.Author.Tests.{eq-eqb, lt-ltb}
 use Rattle.lists.specs.Base.{every}
-use Rattle.lists.specs.Laws.{both, join, every-drop}
+use Rattle.lists.specs.Laws.{join, every-drop, every-take}
 use Rattle.tables.specs.Tests.{every-rows}
 use Rattle.primitives.specs.declared.Scalars.{Scalars}
 use Rattle.records.specs.Layout.{validator-at, public-key-at, withdrawal-credentials-at, identities-fit}
@@ -17,13 +17,6 @@ use Rattle.file_format.specs.Words.{is-byte}
 use Rattle.file_format.specs.Fields.{is-field}
 use Rattle.file_format.specs.Books.{bytes-sized, sized}
 use Rattle.books_writer.specs.Written.{Ready}
-
-every-take : {A : Type 0} (p : A → Bool) (n : ℕ) (xs : List A) → every p xs ≡ true → every p (take n xs) ≡ true
-every-take p zero xs e = refl
-every-take p (suc n) [] e = refl
-every-take p (suc n) (x ∷ xs) e =
-    let s = both (p x) (every p xs) e in
-    join (s .0) (every-take p n xs (s .1))
 
 -- what the type of a lent buffer of bytes says
 pub slice-bytes : (xs : List ℕ) → ((i : ℕ) → getD xs i 0 < 256) → every is-byte xs ≡ true

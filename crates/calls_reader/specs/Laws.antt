@@ -9,7 +9,7 @@ use lib.ListN.{length, getD, drop}
 use lib.Seq.{drop-drop}
 use lib.Dec.{eqb}
 use borrow.Author.Tests.{not-true, not-false}
-use Rattle.lists.specs.Laws.{and-true}
+use Rattle.lists.specs.Laws.{and-true, and-assoc}
 use Rattle.file_format.specs.Words.{words, payload, is-word}
 use Rattle.file_format.specs.Fields.{Format, _⊗_, number, flag, field, many}
 use Rattle.file_format.specs.File.{ends, file-ok}
@@ -18,7 +18,7 @@ use Rattle.file_format.specs.Calls.{signature, amount-fields, receipt-fields, e
 use Rattle.file_format.specs.Calls.{consolidation-fields, withdrawal, withdrawals-fields, call-format, call}
 use Rattle.file_format.specs.Calls.{calls-format}
 use Rattle.file_format.specs.AccessLaws.{Fixed, fixed-at, fixed-number, fixed-key, fixed-credentials, fixed-address}
-use Rattle.file_format.specs.AccessLaws.{getD-at, and-assoc}
+use Rattle.file_format.specs.AccessLaws.{getD-at}
 use Rattle.calls_reader.specs.Widths.{behind, fields-width, code-at, next-place, call-ok-at}
 use Rattle.calls_reader.specs.Widths.{next-rest, next-within, next-near}
 use Rattle.calls_reader.specs.Calls.{calls-ok-at, calls-rest-at}

@@ -3,14 +3,14 @@ use mathlib.Core.Path.{_≡_, refl, sym, ap, _∙_}
 use mathlib.Core.Bool.{Bool, true, false}
 use mathlib.Core.List.{List, [], _∷_, _++_, append-nil}
 use mathlib.Core.Option.{some, none}
-use Prim.Native.Nat.{ℕ, zero, suc, _+_, _-_, _*_, _/_, _≤_, _<_}
+use Prim.Native.Nat.{ℕ, suc, _+_, _-_, _*_, _/_, _≤_, _<_}
 use native.Mathlib.Omega.{arith}
 use lib.ListN.{length, getD, take, drop, length-append, take-append-drop}
 use lib.Seq.{take-at, take-append-le, length-take-le}
 use lib.Dec.{ltb, eqb}
 use borrow.Author.Tests.{ltb-true, lt-ltb, le-ltb, eq-eqb}
 use Rattle.lists.specs.Base.{every}
-use Rattle.lists.specs.Laws.{both, join, if-true, if-false, and-false, every-append-one}
+use Rattle.lists.specs.Laws.{both, join, if-true, if-false, and-false, every-append-one, every-take}
 use Rattle.rules.specs.Calls.{Operation}
 use Rattle.file_format.specs.Words.{word, calls-head, end-word, with-end, is-byte, bytes, words}
 use Rattle.file_format.specs.Fields.{each, many}
@@ -30,13 +30,6 @@ use Rattle.file_stores.specs.Laws.{each-append}
 pub bytes-known : (xs : List ℕ) → ((i : ℕ) → getD xs i 0 < 256) → every is-byte xs ≡ true
 bytes-known [] h = refl
 bytes-known (x ∷ xs) h = join (lt-ltb _ _ (h 0)) (bytes-known xs (λ i. h (suc i)))
-
-every-take : {A : Type 0} (t : A → Bool) (n : ℕ) (xs : List A) → every t xs ≡ true → every t (take n xs) ≡ true
-every-take t zero xs e = refl
-every-take t (suc n) [] e = refl
-every-take t (suc n) (x ∷ xs) e =
-    let s = both (t x) (every t xs) e in
-    join (s .0) (every-take t n xs (s .1))
 
 -- ---- the words of a file, and of the file with one call more
 

@@ -8,7 +8,7 @@ use lib.ListN.{length}
 use lib.Dec.{leb, ltb, eqb}
 use borrow.Author.Tests.{ltb-true, leb-true, eqb-true, lt-ltb, le-leb, eq-eqb}
 use Rattle.lists.specs.Base.{every, total}
-use Rattle.lists.specs.Laws.{both, join, every-weaken}
+use Rattle.lists.specs.Laws.{both, join, every-weaken, every-join}
 use Rattle.rules.specs.Types.{FAR, BOUND, Settings, Validator, Books}
 use Rattle.rules.specs.Types.{PendingBalanceDeposit, PendingPartialWithdrawal, PendingConsolidation}
 use Rattle.rules.specs.Acceptance.{sound-settings, sound-books, effective-within, is-flag, epoch-within, epochs-within}
@@ -21,15 +21,6 @@ use Rattle.file_format.specs.Books.{settings, validator, deposit, partia
 use Rattle.file_format.specs.Books.{list-of, books-writable, bytes-sized, sized}
 
 -- ---- lists
-
--- two tests that every element passes are one
-every-both : {A : Type 0} (t u : A → Bool) (xs : List A) → every t xs ≡ true → every u xs ≡ true
-    → every (λ x. t x && u x) xs ≡ true
-every-both t u [] p q = refl
-every-both t u (x ∷ xs) p q =
-    let r = both (t x) (every t xs) p in
-    let s = both (u x) (every u xs) q in
-    join (join (r .0) (s .0)) (every-both t u xs (r .1) (s .1))
 
 -- no element is over the sum
 every-within : {A : Type 0} (f : A → ℕ) (n : ℕ) (xs : List A) → total f xs ≤ n → every (λ x. leb (f x) n) xs ≡ true
@@ -159,10 +150,10 @@ module _ (S : Settings) (b : Books) (σ : SoundSettings S) (k : SoundBooks S b) 
       let h : balances b ≤ BOUND = omega (arith, k .held-small) in
       list-writable validator (S .validator-registry-limit) vs (k .registry-fits) (σ .registry-limit)
       (every-weaken (validator-tests S) (validator .domain) vs (validator-writable S σ)
-      (every-both bytes-sized _ vs (bytes .0)
-      (every-both is-flag _ vs (k .flags)
-      (every-both (effective-within S) _ vs (k .effective)
-      (every-both epochs-within (λ v. leb (v .balance) BOUND) vs (k .epochs)
+      (every-join bytes-sized _ vs (bytes .0)
+      (every-join is-flag _ vs (k .flags)
+      (every-join (effective-within S) _ vs (k .effective)
+      (every-join epochs-within (λ v. leb (v .balance) BOUND) vs (k .epochs)
       (every-within (λ (v : Validator). v .balance) BOUND vs h))))))
 
   deposits-writable : list-of deposit .domain (b .pending-balance-deposits) ≡ true
@@ -172,7 +163,7 @@ module _ (S : Settings) (b : Books) (σ : SoundSettings S) (k : SoundBooks S b) 
       let sums = every-within (λ (d : PendingBalanceDeposit). d .amount) BOUND ds h in
       list-writable deposit (S .pending-balance-deposits-limit) ds (k .deposits-fit) (σ .deposits-limit)
       (every-weaken _ (deposit .domain) ds (deposit-writable (count b) count-small)
-      (every-both (deposit-in (count b)) (λ d. leb (d .amount) BOUND) ds (k .deposits-in) sums))
+      (every-join (deposit-in (count b)) (λ d. leb (d .amount) BOUND) ds (k .deposits-in) sums))
 
   partials-writable : list-of partial .domain (b .pending-partial-withdrawals) ≡ true
   partials-writable =
@@ -180,8 +171,8 @@ module _ (S : Settings) (b : Books) (σ : SoundSettings S) (k : SoundBooks S b) 
       let sums = every-within (λ (p : PendingPartialWithdrawal). p .amount) BOUND ps (k .partials-small) in
       list-writable partial (S .pending-partial-withdrawals-limit) ps (k .partials-fit) (σ .partials-limit)
       (every-weaken _ (partial .domain) ps (partial-writable (count b) count-small)
-      (every-both (partial-in (count b)) _ ps (k .partials-in)
-      (every-both partial-epoch-within (λ p. leb (p .amount) BOUND) ps (k .partial-epochs) sums)))
+      (every-join (partial-in (count b)) _ ps (k .partials-in)
+      (every-join partial-epoch-within (λ p. leb (p .amount) BOUND) ps (k .partial-epochs) sums)))
 
   consolidations-writable : list-of consolidation .domain (b .pending-consolidations) ≡ true
   consolidations-writable =

@@ -1,14 +1,14 @@
 -- Random access: a format at word k of a file is that format over `drop k ws`. Formats that take n words, whatever they
 -- hold, stand one behind another at places that can be computed.
 use mathlib.Core.Path.{_≡_, refl, sym, ap, _∙_}
-use mathlib.Core.Bool.{Bool, true, false, _&&_}
+use mathlib.Core.Bool.{true, false, _&&_}
 use mathlib.Core.List.{List, [], _∷_}
 use Prim.Native.Nat.{ℕ, zero, suc, _+_, _*_, _/_, _^_, _≤_, _<_}
 use native.Mathlib.Nat.{le-of-suc-le-suc, not-suc-le-zero, add-zero, zero-add, suc-add}
 use native.Mathlib.Omega.{arith}
 use lib.ListN.{length, getD, drop, length-append, length-drop}
 use lib.Seq.{drop-drop, getD-drop}
-use Rattle.lists.specs.Laws.{both, and-false}
+use Rattle.lists.specs.Laws.{both, and-false, and-true, and-assoc}
 use Rattle.file_format.specs.Words.{payload, is-word}
 use Rattle.file_format.specs.Fields.{Format, _⊗_, number, flag, field, field-words, field-ok, field-value}
 use Rattle.file_format.specs.Fields.{field-rest, many}
@@ -78,14 +78,6 @@ unfolding field
 fixed-address = record { rest = λ ws. simp drop-drop; long = field-long 20 }
 
 -- ---- k records of n words
-
-pub and-true : (t : Bool) → t && true ≡ t
-and-true true = refl
-and-true false = refl
-
-pub and-assoc : (s t u : Bool) → s && (t && u) ≡ s && t && u
-and-assoc true t u = refl
-and-assoc false t u = refl
 
 drop-none : {A : Type 0} (n : ℕ) (ws : List A) → drop (0 * n) ws ≡ ws
 drop-none n ws =

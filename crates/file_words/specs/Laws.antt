@@ -10,14 +10,14 @@ use lib.ListN.{length, getD, drop, take, List·getD-eq-default, length-drop}
 use lib.Seq.{drop-drop, getD-drop}
 use lib.Dec.{ltb, eqb}
 use borrow.Author.Tests.{not-true, not-false, eq-eqb, ne-eqb, eqb-true, ltb-true}
-use Rattle.lists.specs.Laws.{both, join, and-false}
+use Rattle.lists.specs.Laws.{both, join, and-false, and-true, and-assoc, same-test}
 use Rattle.file_format.specs.Words.{words, payload, is-word, wrapping-sum}
 use Rattle.file_format.specs.Fields.{Format, number, flag, field, field-ok, is-three-bytes, second, third, many}
 use Rattle.file_format.specs.File.{ends}
 use Rattle.file_format.specs.Places.{number-at}
 use Rattle.file_format.specs.AccessLaws.{Fixed, fixed-number, fixed-numbers}
 use Rattle.file_format.specs.AccessLaws.{getD-at}
-use Rattle.file_format.specs.AccessLaws.{and-true, and-assoc, many-step, many-broken}
+use Rattle.file_format.specs.AccessLaws.{many-step, many-broken}
 use Rattle.file_format.specs.PlacesLaws.{length-words, word-at, sum-step, number-words-at}
 
 -- ---- a word
@@ -126,12 +126,6 @@ pub many-done : {A : Type 0} (F : Format A) (us : List ℕ) (n i : ℕ) (g : Boo
 many-done F us n i g h l e =
     let q : i ≡ n = omega arith in
     rw q at e
-
--- two tests that say the same
-same-test : (s t : Bool) → (s ≡ true → t ≡ true) → (t ≡ true → s ≡ true) → s ≡ t
-same-test true t p q = sym (p refl)
-same-test false true p q = q refl
-same-test false false p q = refl
 
 -- of numbers that do not lie within the file, none are good
 pub numbers-outside : (bs : List ℕ) (k n : ℕ) → length bs / 4 < k + n * 3

@@ -5,7 +5,7 @@ use mathlib.Core.List.{List, [], _∷_, _++_, map}
 use Prim.Native.Nat.{ℕ, zero, suc, _+_, _≤_, _<_}
 use native.Mathlib.Nat.{le-of-suc-le-suc, not-suc-le-zero}
 use native.Mathlib.Omega.{arith}
-use lib.ListN.{length, getD, drop}
+use lib.ListN.{length, getD, take, drop}
 use Rattle.lists.specs.Base.{if_then_else_, all, adjust, total, every}
 
 -- ---- tests
@@ -42,6 +42,16 @@ and-true false = refl
 pub and-false : (s t : Bool) → t ≡ false → (s && t) ≡ false
 and-false true t e = e
 and-false false t e = refl
+
+pub and-assoc : (s t u : Bool) → (s && (t && u)) ≡ (s && t && u)
+and-assoc true t u = refl
+and-assoc false t u = refl
+
+-- two tests that pass together
+pub same-test : (s t : Bool) → (s ≡ true → t ≡ true) → (t ≡ true → s ≡ true) → s ≡ t
+same-test true t f g = sym (f refl)
+same-test false true f g = g refl
+same-test false false f g = refl
 
 pub not-not : (t : Bool) → not t ≡ false → t ≡ true
 not-not true e = refl
@@ -148,6 +158,13 @@ module _ {A : Type 0} where
   every-drop t (suc n) [] p = refl
   every-drop t (suc n) (x ∷ xs) p = every-drop t n xs (both (t x) (every t xs) p .1)
 
+  pub every-take : (t : A → Bool) (n : ℕ) (xs : List A) → every t xs ≡ true → every t (take n xs) ≡ true
+  every-take t zero xs p = refl
+  every-take t (suc n) [] p = refl
+  every-take t (suc n) (x ∷ xs) p =
+      let s = both (t x) (every t xs) p in
+      join (s .0) (every-take t n xs (s .1))
+
   pub every-map : (t : A → Bool) (g : A → A) (xs : List A)
       → ((x : A) → t x ≡ true → t (g x) ≡ true) → every t xs ≡ true → every t (map g xs) ≡ true
   every-map t g [] h p = refl
@@ -161,6 +178,15 @@ module _ {A : Type 0} where
   every-weaken t u (x ∷ xs) h p =
       let s = both (t x) (every t xs) p in
       join (h x (s .0)) (every-weaken t u xs h (s .1))
+
+  -- two tests that every element passes are one
+  pub every-join : (t u : A → Bool) (xs : List A)
+      → every t xs ≡ true → every u xs ≡ true → every (λ x. t x && u x) xs ≡ true
+  every-join t u [] p q = refl
+  every-join t u (x ∷ xs) p q =
+      let s = both (t x) (every t xs) p in
+      let r = both (u x) (every u xs) q in
+      join (join (s .0) (r .0)) (every-join t u xs (s .1) (r .1))
 
   pub every-at : (t : A → Bool) (i : ℕ) (xs : List A) (d : A)
       → i < length xs → every t xs ≡ true → t (getD xs i d) ≡ true
