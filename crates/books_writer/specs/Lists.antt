@@ -19,8 +19,9 @@ use Rattle.records.specs.Plain.{plain-validator}
 use Rattle.file_format.specs.Words.{word}
 use Rattle.file_format.specs.Fields.{Format, number, flag, field, field-words, each, many}
 use Rattle.file_format.specs.Books.{validator, validator-parts, deposit, partial, consolidation, list-of}
+use Rattle.file_format.specs.AccessLaws.{field-length}
 use Rattle.file_format.specs.PutLaws.{put}
-use Rattle.file_stores.specs.Laws.{put-none, put-next, put-length, put-row, each-length, number-length, field-length}
+use Rattle.file_stores.specs.Laws.{put-none, put-next, put-length, put-row, each-length, number-length}
 
 -- ---- how many words a record has
 

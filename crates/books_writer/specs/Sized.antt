@@ -1,10 +1,10 @@
 -- Keys of 48 bytes and credentials of 32, from a lent table of bytes.
-use mathlib.Core.Path.{_≡_, refl}
+use mathlib.Core.Path.{_≡_}
 use mathlib.Core.Bool.{true}
-use mathlib.Core.List.{List, [], _∷_}
-use Prim.Native.Nat.{ℕ, suc, _+_, _*_, _≤_, _<_, _^_}
+use mathlib.Core.List.{List}
+use Prim.Native.Nat.{ℕ, _+_, _*_, _≤_, _<_, _^_}
 use native.Mathlib.Omega.{arith}
-use lib.ListN.{length, getD, take, drop, length-take, length-drop}
+use lib.ListN.{length, take, drop, length-take, length-drop}
 use borrow.Author.Tests.{eq-eqb, lt-ltb}
 use Rattle.lists.specs.Base.{every}
 use Rattle.lists.specs.Laws.{join, every-drop, every-take}
@@ -17,11 +17,6 @@ use Rattle.file_format.specs.Words.{is-byte}
 use Rattle.file_format.specs.Fields.{is-field}
 use Rattle.file_format.specs.Books.{bytes-sized, sized}
 use Rattle.books_writer.specs.Written.{Ready}
-
--- what the type of a lent buffer of bytes says
-pub slice-bytes : (xs : List ℕ) → ((i : ℕ) → getD xs i 0 < 256) → every is-byte xs ≡ true
-slice-bytes [] h = refl
-slice-bytes (x ∷ xs) h = join (lt-ltb x 256 (h 0)) (slice-bytes xs (λ i. h (suc i)))
 
 -- a part of a table of bytes
 part-bytes : (n at : ℕ) (xs : List ℕ) → at + n ≤ length xs → every is-byte xs ≡ true

@@ -5,7 +5,7 @@ use mathlib.Core.List.{List, [], _∷_, _++_}
 use Prim.Native.Nat.{ℕ, _+_, _*_, _^_, _≤_, _<_}
 use native.Mathlib.Omega.{arith}
 use lib.ListN.{length, length-append}
-use borrow.Author.Tests.{lt-ltb, eq-eqb}
+use borrow.Author.Tests.{eq-eqb}
 use Rattle.lists.specs.Base.{every}
 use Rattle.lists.specs.Laws.{join}
 use Rattle.rules.specs.Calls.{Operation, reward, penalty, deposit-receipt, voluntary-exit, withdrawal-request}
@@ -13,17 +13,15 @@ use Rattle.rules.specs.Calls.{consolidation, turn}
 use Rattle.file_format.specs.Words.{word, is-byte}
 use Rattle.file_format.specs.Fields.{number, field, flag, field-words}
 use Rattle.file_format.specs.Calls.{signature, amount-fields, call}
+use Rattle.file_format.specs.FieldsLaws.{number-fits}
+use Rattle.file_format.specs.AccessLaws.{field-length}
 use Rattle.file_format.specs.PutLaws.{put}
-use Rattle.file_stores.specs.Laws.{put-next, put-length, field-length}
+use Rattle.file_stores.specs.Laws.{put-next, put-length}
 
 -- the call o can be written, in w words
 pub record Fits (o : Operation) (w : ℕ) : Type 0 where
   pub domain : call .domain o ≡ true
   pub words : length (call .write o) ≡ w
-
-pub number-fits : (n : ℕ) → n < 2 ^ 64 → number .domain n ≡ true
-unfolding number
-number-fits n h = lt-ltb n (2 ^ 64) h
 
 signature-fits : (b : Bool) → signature .domain b ≡ true
 unfolding flag

@@ -3,9 +3,9 @@ use mathlib.Core.Path.{_≡_, refl, sym, ap, _∙_}
 use mathlib.Core.Bool.{Bool, true, false}
 use mathlib.Core.List.{List, [], _∷_, _++_, append-nil}
 use mathlib.Core.Option.{some, none}
-use Prim.Native.Nat.{ℕ, suc, _+_, _-_, _*_, _/_, _≤_, _<_}
+use Prim.Native.Nat.{ℕ, _+_, _-_, _*_, _/_, _≤_, _<_}
 use native.Mathlib.Omega.{arith}
-use lib.ListN.{length, getD, take, drop, length-append, take-append-drop}
+use lib.ListN.{length, take, drop, length-append, take-append-drop}
 use lib.Seq.{take-at, take-append-le, length-take-le}
 use lib.Dec.{ltb, eqb}
 use borrow.Author.Tests.{ltb-true, lt-ltb, le-ltb, eq-eqb}
@@ -23,13 +23,6 @@ use Rattle.file_format.specs.CallsLaws.{calls-format-lawful}
 use Rattle.file_format.specs.FileLaws.{words-bytes, length-bytes, ok-written}
 use Rattle.file_format.specs.PutLaws.{put, bytes-append}
 use Rattle.file_stores.specs.Laws.{each-append}
-
--- ---- bytes
-
--- the elements of a lent slice of bytes are below 256
-pub bytes-known : (xs : List ℕ) → ((i : ℕ) → getD xs i 0 < 256) → every is-byte xs ≡ true
-bytes-known [] h = refl
-bytes-known (x ∷ xs) h = join (lt-ltb _ _ (h 0)) (bytes-known xs (λ i. h (suc i)))
 
 -- ---- the words of a file, and of the file with one call more
 

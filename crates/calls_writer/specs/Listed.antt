@@ -26,10 +26,12 @@ use Rattle.file_format.specs.Words.{word, is-byte}
 use Rattle.file_format.specs.Fields as fields
 use Rattle.file_format.specs.Fields.{number, field, field-words, many}
 use Rattle.file_format.specs.Calls.{withdrawal, call}
+use Rattle.file_format.specs.FieldsLaws.{number-fits}
+use Rattle.file_format.specs.AccessLaws.{field-length}
 use Rattle.file_format.specs.PutLaws.{put}
-use Rattle.file_stores.specs.Laws.{put-none, put-next, put-length, put-row, field-length}
+use Rattle.file_stores.specs.Laws.{put-none, put-next, put-length, put-row}
 use Rattle.calls_writer.specs.Known.{array-bytes}
-use Rattle.calls_writer.specs.Fits.{Fits, number-fits, field-fits}
+use Rattle.calls_writer.specs.Fits.{Fits, field-fits}
 
 -- ---- what a function is told of the sixteen records
 

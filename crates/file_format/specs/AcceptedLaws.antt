@@ -19,6 +19,7 @@ use Rattle.rule_laws.specs.Accepted.{Limit, SoundSettings, settings-sound, Soun
 use Rattle.file_format.specs.Fields.{Format, number, flag, is-field, field, many}
 use Rattle.file_format.specs.Books.{settings, validator, deposit, partial, consolidation, books, books-format}
 use Rattle.file_format.specs.Books.{list-of, books-writable, bytes-sized, sized}
+use Rattle.file_format.specs.FieldsLaws.{number-fits}
 
 -- ---- lists
 
@@ -29,40 +30,36 @@ every-within f n (x ∷ xs) h = join (le-leb (f x) n (omega arith)) (every-withi
 
 -- ---- numbers
 
-below : (n : ℕ) → n < 2 ^ 64 → number .domain n ≡ true
-unfolding number
-below n h = lt-ltb _ _ h
-
 limit-below : (n : ℕ) → Limit n → number .domain n ≡ true
-limit-below n l = below n (omega (arith, l .most))
+limit-below n l = number-fits n (omega (arith, l .most))
 
 epoch-below : (e : ℕ) → epoch-within e ≡ true → number .domain e ≡ true
 epoch-below e h = go (leb e BOUND) refl h
   where
     go : (t : Bool) → leb e BOUND ≡ t → t || eqb e FAR ≡ true → number .domain e ≡ true
-    go true p q = below e (omega (arith, leb-true e BOUND p))
-    go false p q = below e (omega (arith, eqb-true e FAR q))
+    go true p q = number-fits e (omega (arith, leb-true e BOUND p))
+    go false p q = number-fits e (omega (arith, eqb-true e FAR q))
 
 -- ---- settings
 
 settings-writable : (S : Settings) → SoundSettings S → settings .domain S ≡ true
 unfolding settings many
 settings-writable S σ =
-    join (below _ (omega (arith, σ .min-activation-balance)))
-    (join (below _ (omega (arith, σ .max-effective-balance)))
-    (join (below _ (omega (arith, σ .increment)))
-    (join (below _ (omega (arith, σ .min-churn)))
-    (join (below _ (omega (arith, σ .max-churn)))
-    (join (below _ (omega (arith, σ .quotient)))
-    (join (below _ (omega (arith, σ .period)))
-    (join (below _ (omega (arith, σ .delay)))
-    (join (below _ (omega (arith, σ .lookahead)))
-    (join (below _ (omega (arith, σ .hysteresis-quotient)))
-    (join (below _ (omega (arith, σ .downward)))
-    (join (below _ (omega (arith, σ .upward)))
-    (join (below _ (omega (arith, σ .partials)))
-    (join (below _ (omega (arith, σ .payload)))
-    (join (below _ (omega (arith, σ .sweep)))
+    join (number-fits _ (omega (arith, σ .min-activation-balance)))
+    (join (number-fits _ (omega (arith, σ .max-effective-balance)))
+    (join (number-fits _ (omega (arith, σ .increment)))
+    (join (number-fits _ (omega (arith, σ .min-churn)))
+    (join (number-fits _ (omega (arith, σ .max-churn)))
+    (join (number-fits _ (omega (arith, σ .quotient)))
+    (join (number-fits _ (omega (arith, σ .period)))
+    (join (number-fits _ (omega (arith, σ .delay)))
+    (join (number-fits _ (omega (arith, σ .lookahead)))
+    (join (number-fits _ (omega (arith, σ .hysteresis-quotient)))
+    (join (number-fits _ (omega (arith, σ .downward)))
+    (join (number-fits _ (omega (arith, σ .upward)))
+    (join (number-fits _ (omega (arith, σ .partials)))
+    (join (number-fits _ (omega (arith, σ .payload)))
+    (join (number-fits _ (omega (arith, σ .sweep)))
     (join (limit-below _ (σ .registry-limit))
     (join (limit-below _ (σ .deposits-limit))
     (join (limit-below _ (σ .partials-limit))
@@ -102,12 +99,12 @@ validator-writable S σ v e =
     join (bs .0)
     (join (bs .1)
     (join (lt-ltb _ _ n)
-    (join (below (v .effective-balance) (omega (arith, σ .max-effective-balance)))
+    (join (number-fits (v .effective-balance) (omega (arith, σ .max-effective-balance)))
     (join (epoch-below (v .activation-eligibility-epoch) (active .0))
     (join (epoch-below (v .activation-epoch) (active .1))
     (join (epoch-below (v .exit-epoch) (exit .1))
     (join (epoch-below (v .withdrawable-epoch) (withdrawable .1))
-    (join (below (v .balance) (omega arith)) refl))))))))
+    (join (number-fits (v .balance) (omega arith)) refl))))))))
 
 deposit-writable : (n : ℕ) → n ≤ 65536 → (d : PendingBalanceDeposit)
     → deposit-in n d && leb (d .amount) BOUND ≡ true → deposit .domain d ≡ true
@@ -116,7 +113,7 @@ deposit-writable n h d e =
     let s = both (deposit-in n d) (leb (d .amount) BOUND) e in
     let i = ltb-true (d .index) n (s .0) in
     let a = leb-true (d .amount) BOUND (s .1) in
-    join (below _ (omega arith)) (join (below _ (omega arith)) refl)
+    join (number-fits _ (omega arith)) (join (number-fits _ (omega arith)) refl)
 
 partial-writable : (n : ℕ) → n ≤ 65536 → (p : PendingPartialWithdrawal)
     → partial-in n p && (partial-epoch-within p && leb (p .amount) BOUND) ≡ true → partial .domain p ≡ true
@@ -126,7 +123,7 @@ partial-writable n h p e =
     let t = both (partial-epoch-within p) (leb (p .amount) BOUND) (s .1) in
     let i = ltb-true (p .index) n (s .0) in
     let a = leb-true (p .amount) BOUND (t .1) in
-    join (below _ (omega arith)) (join (below _ (omega arith)) (join (epoch-below _ (t .0)) refl))
+    join (number-fits _ (omega arith)) (join (number-fits _ (omega arith)) (join (epoch-below _ (t .0)) refl))
 
 consolidation-writable : (n : ℕ) → n ≤ 65536 → (c : PendingConsolidation) → consolidation-in n c ≡ true
     → consolidation .domain c ≡ true
@@ -135,7 +132,7 @@ consolidation-writable n h c e =
     let s = both (ltb (c .source-index) n) (ltb (c .target-index) n) e in
     let i = ltb-true (c .source-index) n (s .0) in
     let j = ltb-true (c .target-index) n (s .1) in
-    join (below _ (omega arith)) (join (below _ (omega arith)) refl)
+    join (number-fits _ (omega arith)) (join (number-fits _ (omega arith)) refl)
 
 -- ---- the books
 
@@ -188,15 +185,15 @@ module _ (S : Settings) (b : Books) (σ : SoundSettings S) (k : SoundBooks S b) 
       let cursor = k .cursor-in in
       let c = count-small in
       let scalars =
-      join (below (b .epoch) (omega (arith, k .epoch-small)))
-      (join (below (b .next-withdrawal-index) (omega (arith, k .index-small)))
-      (join (below (b .next-withdrawal-validator-index) (omega arith))
-      (join (below (b .deposit-receipts-start-index) (ltb-true _ _ (start .1)))
-      (join (below (b .deposit-balance-to-consume) (omega (arith, k .carry-small)))
-      (join (below (b .exit-balance-to-consume) (omega (arith, k .exit-left-small)))
-      (join (below (b .earliest-exit-epoch) (omega (arith, k .exit-epoch-small)))
-      (join (below (b .consolidation-balance-to-consume) (omega (arith, k .consolidation-left-small)))
-      (join (below (b .earliest-consolidation-epoch) (omega (arith, k .consolidation-epoch-small))) refl))))))))
+      join (number-fits (b .epoch) (omega (arith, k .epoch-small)))
+      (join (number-fits (b .next-withdrawal-index) (omega (arith, k .index-small)))
+      (join (number-fits (b .next-withdrawal-validator-index) (omega arith))
+      (join (number-fits (b .deposit-receipts-start-index) (ltb-true _ _ (start .1)))
+      (join (number-fits (b .deposit-balance-to-consume) (omega (arith, k .carry-small)))
+      (join (number-fits (b .exit-balance-to-consume) (omega (arith, k .exit-left-small)))
+      (join (number-fits (b .earliest-exit-epoch) (omega (arith, k .exit-epoch-small)))
+      (join (number-fits (b .consolidation-balance-to-consume) (omega (arith, k .consolidation-left-small)))
+      (join (number-fits (b .earliest-consolidation-epoch) (omega (arith, k .consolidation-epoch-small))) refl))))))))
       in
       join scalars
       (join validators-writable (join deposits-writable (join partials-writable consolidations-writable)))

@@ -52,17 +52,17 @@ pub fixed-flag : Fixed flag 1
 unfolding flag
 fixed-flag = record { rest = λ ws. refl; long = one-word 7 2 (omega arith) }
 
-length-field-words : (xs : List ℕ) → length (field-words xs) ≡ (length xs + 2) / 3
-length-field-words [] = refl
-length-field-words (a ∷ []) = refl
-length-field-words (a ∷ b ∷ []) = refl
-length-field-words (a ∷ b ∷ c ∷ xs) = omega (arith, length-field-words xs)
+pub field-length : (xs : List ℕ) → length (field-words xs) ≡ (length xs + 2) / 3
+field-length [] = refl
+field-length (a ∷ []) = refl
+field-length (a ∷ b ∷ []) = refl
+field-length (a ∷ b ∷ c ∷ xs) = omega (arith, field-length xs)
 
 field-long : (n : ℕ) (ws : List ℕ) → field-ok n ws ≡ true → (n + 2) / 3 ≤ length ws
 field-long n ws e =
     let s = field-only n ws e in
     let xs = field-value n ws in
-    omega (arith, s .0, length-field-words xs, ap length (s .2), length-append (field-words xs) (field-rest n ws))
+    omega (arith, s .0, field-length xs, ap length (s .2), length-append (field-words xs) (field-rest n ws))
 
 -- a key, credentials, an address
 pub fixed-key : Fixed (field 48) 16

@@ -74,6 +74,10 @@ first-word kind limit h (w ∷ ws) e = refl
 
 -- ---- a number
 
+pub number-fits : (n : ℕ) → n < 2 ^ 64 → number .domain n ≡ true
+unfolding number
+number-fits n h = lt-ltb n (2 ^ 64) h
+
 pub number-kept : (n : ℕ) → number .domain n ≡ true → Kept number n
 unfolding number
 number-kept n e =

@@ -3,7 +3,7 @@ use mathlib.Core.Path.{_≡_, refl, sym, ap, _∙_}
 use mathlib.Core.Bool.{Bool, true, false, _&&_}
 use mathlib.Core.List.{List, [], _∷_, _++_, append-nil}
 use mathlib.Core.Option.{some, none}
-use Prim.Native.Nat.{ℕ, _+_, _-_, _*_, _/_, _%_, _^_, _<_}
+use Prim.Native.Nat.{ℕ, suc, _+_, _-_, _*_, _/_, _%_, _^_, _<_}
 use native.Mathlib.Omega.{arith}
 use lib.ListN.{length, getD, take, length-append}
 use lib.Seq.{take-at}
@@ -34,6 +34,11 @@ words-bytes ws = ap words (sym (append-nil (bytes ws))) ∙ words-front ws [] �
 pub length-bytes : (ws : List ℕ) → length (bytes ws) ≡ 4 * length ws
 length-bytes [] = refl
 length-bytes (w ∷ ws) = omega (arith, length-bytes ws)
+
+-- what the type of a lent slice of bytes says
+pub bytes-known : (xs : List ℕ) → ((i : ℕ) → getD xs i 0 < 256) → every is-byte xs ≡ true
+bytes-known [] h = refl
+bytes-known (x ∷ xs) h = join (lt-ltb x 256 (h 0)) (bytes-known xs (λ i. h (suc i)))
 
 pub bytes-small : (ws : List ℕ) → every fits ws ≡ true → every is-byte (bytes ws) ≡ true
 bytes-small [] e = refl

@@ -8,7 +8,7 @@ use native.Mathlib.Numerals.{add-one, towards-suc}
 use native.Mathlib.Omega.{arith}
 use lib.ListN.{length, getD, set, take, drop, length-append, take-append-drop, List·getD-eq-default}
 use lib.Seq.{take-at}
-use Rattle.tables.specs.Rows.{rows, length-rows, rows-snoc, rows-getD, rows-ext}
+use Rattle.tables.specs.Rows.{rows, rows-snoc, rows-getD, rows-ext}
 use Rattle.file_format.specs.Words.{word, words, bytes, end-word, with-end, wrapping-sum}
 use Rattle.file_format.specs.Fields.{number, flag, three-bytes, field-words, each}
 use Rattle.file_format.specs.Calls.{signature}
@@ -175,9 +175,6 @@ field-by-words (a ∷ b ∷ c ∷ xs) =
     let ys = a ∷ b ∷ c ∷ xs in
     let l = rows-ext n (λ i. field-word ys (suc i)) (field-word xs) (λ i h. field-word-later a b c xs i) in
     ap (λ k. rows k (field-word ys)) e ∙ ap {B = List ℕ} (λ zs. three-bytes a b c ∷ zs) (l ∙ field-by-words xs)
-
-pub field-length : (xs : List ℕ) → length (field-words xs) ≡ (length xs + 2) / 3
-field-length xs = ap length (sym (field-by-words xs)) ∙ length-rows ((length xs + 2) / 3) (field-word xs)
 
 abbrev pub one-word : ℕ → List ℕ
 one-word w = w ∷ []

@@ -6,7 +6,7 @@ use native.Mathlib.Omega.{arith}
 use Rattle.lists.specs.Base.{every}
 use Rattle.records.specs.Books.{Tables, tables}
 use Rattle.file_format.specs.Words.{is-byte}
-use Rattle.books_writer.specs.Sized.{slice-bytes}
+use Rattle.file_format.specs.FileLaws.{bytes-known}
 use Rattle.books_writer.specs.Laws.{ready, handed-refused, buffer-short, all-written}
 use Rattle.books_writer.proofs.write_books.Statement.{statement}
 use Rattle.books_writer.proofs.write_books.Tie as tie
@@ -48,7 +48,7 @@ put-books-requires c κs =
 
 -- what the types say
 identities-bytes : (c : tie.After-shared-slice-known) → every is-byte (c .before .args .identities .now) ≡ true
-identities-bytes c = slice-bytes (c .before .args .identities .now) (λ i. c .shared-slice-known .given i .fits)
+identities-bytes c = bytes-known (c .before .args .identities .now) (λ i. c .shared-slice-known .given i .fits)
 
 start-small : (c : tie.Start) → c .args .scalars .«deposit_receipts_start_index» < 2 ^ 64
 start-small c = search needs

@@ -4,7 +4,7 @@ use native.Mathlib.Omega.{arith}
 use borrow.Author.Needs.{needs}
 use Rattle.lists.specs.Base.{every}
 use Rattle.file_format.specs.Words.{is-byte}
-use Rattle.calls_writer.specs.Held.{bytes-known}
+use Rattle.file_format.specs.FileLaws.{bytes-known}
 use Rattle.calls_writer.specs.Opened.{part-length, opened-long, opened-broken, opened-full}
 use Rattle.calls_writer.specs.Opened.{opened-short, opened-done}
 use Rattle.calls_writer.proofs.open.Statement.{statement}
