@@ -5,15 +5,13 @@ use mathlib.Core.List.{List, _++_, append-nil}
 use Prim.Native.Nat.{ℕ, zero, suc, _+_, _*_, _/_, _%_, _^_, _≤_, _<_}
 use native.Mathlib.Numerals.{add-one}
 use native.Mathlib.Omega.{arith}
-use borrow.Author.Count.{below-more}
 use borrow.Author.Tests.{ltb-true, ltb-false}
 use lib.Dec.{eqb, ltb}
 use lib.ListN.{length, getD, set, take, drop, length-set, length-drop, drop-of-length-le, replicate, length-replicate}
 use lib.ListN.{List·getD-eq-default}
-use lib.Seq.{getD-set-same, getD-set-other, getD-drop, take-all, paste, paste-zero, paste-suc}
+use lib.Seq.{getD-drop, take-all, paste, paste-zero, paste-suc}
 use Rattle.lists.specs.Base.{if_then_else_}
 use Rattle.lists.specs.Laws.{both}
-use Rattle.tables.specs.Rows.{rows, rows-ext, rows-getD}
 use Rattle.file_format.specs.Words.{words, payload}
 use Rattle.file_format.specs.Fields.{field, field-ok, is-three-bytes, first, second, third}
 use Rattle.file_format.specs.FieldsLaws.{field-only, impossible}
@@ -148,25 +146,3 @@ put-whole bs k n e p =
     ∙ ap (λ r. take n s ++ r) none
     ∙ append-nil (take n s)
     ∙ take-all n s (omega (arith, field-size bs k n e))
-
--- ---- a loop that fills an array of n numbers: number q of it is g q
-
-pub record Filled (out : List ℕ) (g : ℕ → ℕ) (n j : ℕ) : Type 0 where
-  pub size : length out ≡ n
-  pub same : (q : ℕ) → q < j → getD out q 0 ≡ g q
-
-pub filled-none : {out : List ℕ} {g : ℕ → ℕ} {n : ℕ} → length out ≡ n → Filled out g n 0
-filled-none e = record { size = e; same = λ q h. omega arith }
-
-pub filled-more : {out : List ℕ} {g : ℕ → ℕ} {n j x : ℕ} → j < n → x ≡ g j → Filled out g n j
-    → Filled (set out j x) g n (j + 1)
-filled-more {out} {g} {n} {j} {x} h e f = record {
-  size = length-set out j x ∙ f .size;
-  same = below-more _ _
-      (λ q p. getD-set-other out j q x 0 (omega arith) ∙ f .same q p)
-      (getD-set-same out j x 0 (omega (arith, f .size)) ∙ e);
-}
-
-pub filled-all : {out : List ℕ} {g : ℕ → ℕ} {n j : ℕ} → n ≤ j → Filled out g n j → out ≡ rows n g
-filled-all {out} {g} {n} {j} h f =
-    sym (rows-getD out n 0 (f .size)) ∙ rows-ext n (λ q. getD out q 0) g (λ q p. f .same q (omega arith))

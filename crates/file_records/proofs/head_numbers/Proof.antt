@@ -1,16 +1,16 @@
 use mathlib.Core.Path.{refl}
 use Prim.Native.Nat.{_+_, _-_, _*_, _≤_}
 use native.Mathlib.Omega.{arith}
+use Rattle.tables.specs.Filled.{Filled, filled-none, filled-more, filled-all}
 use Rattle.file_format.specs.Words.{words}
 use Rattle.file_format.specs.Places.{number-at}
-use Rattle.file_bytes.specs.Laws.{Filled, filled-none, filled-more, filled-all}
 use Rattle.file_records.specs.Laws.{head-number-good}
 use Rattle.file_records.proofs.head_numbers.Statement.{statement}
 use Rattle.file_records.proofs.head_numbers.Tie as tie
 
 abbrev Inv-loop : tie.InvT-loop
 Inv-loop file out₀ i₀ out i =
-    (i ≤ 28) × Filled out (λ q. number-at (words file) (1 + q * 3)) 28 i
+    (i ≤ 28) × Filled 0 (λ q. number-at (words file) (1 + q * 3)) out 28 i
 
 abbrev μ-loop : tie.MeasureT-loop
 μ-loop file out₀ i₀ out i = 28 - i
