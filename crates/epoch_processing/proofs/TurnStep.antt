@@ -24,7 +24,7 @@ use Rattle.result_sizes.specs.Epoch.{deposits-size, consolidations-size}
 use Rattle.primitives.specs.declared.Scalars.{Scalars}
 use Rattle.primitives.specs.Scalars.{with-epoch, with-consolidations}
 use Rattle.records.specs.Books.{Tables, Stepped, Beyond, AtMost, books-of, beyond-then}
-use Rattle.records.specs.Reading.{EnoughRoom, validators-count, deposits-count, partials-count}
+use Rattle.records.specs.Reading.{EnoughRoom, validators-count, deposits-count, partials-count, epoch-read}
 use Rattle.records.specs.Fixed.{SameSizes}
 
 -- ---- accepted books stay accepted
@@ -73,10 +73,6 @@ pub turn-queue : (S : Settings) (b : Books)
     ≡ process-pending-consolidations S (process-pending-balance-deposits S b) .pending-balance-deposits
 unfolding turn process-effective-balance-updates
 turn-queue S b = refl
-
-epoch-read : (s : Scalars) (t : Tables) → books-of s t .epoch ≡ s .epoch .0
-unfolding books-of
-epoch-read s t = refl
 
 module _ (S : Settings) (s r q p : Scalars) (t u w x : Tables)
     (known : SoundBooks S (books-of r u))

@@ -16,7 +16,7 @@ use Rattle.primitives.specs.Settings.{settings-of}
 use Rattle.primitives.specs.declared.Settings.{Settings}
 use Rattle.primitives.specs.declared.Scalars.{Scalars}
 use Rattle.records.specs.Books.{Tables, books-of, room-of, Stepped, Called}
-use Rattle.records.specs.Reading.{EnoughRoom}
+use Rattle.records.specs.Reading.{EnoughRoom, epoch-read}
 use Rattle.acceptance.specs.Handed.{facts}
 use Rattle.helpers.specs.Ready.{Registry, registry-ready}
 use Rattle.queue_room.specs.Ready as room-ready
@@ -76,15 +76,11 @@ module _ (S : rule.Settings) (s : Scalars) (t : Tables) (h : handed-refusal S (b
   unfolding own-refusal result
   turn-over e = size-refused S calls.turn s t 40 h refl (sym (turn-size S b k ∙ rw e)) (omega arith)
 
-  epoch-read : b .epoch ≡ s .epoch .0
-  unfolding books-of
-  epoch-read = refl
-
   pub turn-late : leb (length (steps.turn S b .pending-balance-deposits)) limit ≡ true → BOUND ≤ s .epoch .0
       → Called S calls.turn s t t 42 s
   unfolding own-refusal result
   turn-late e l =
-      let late : BOUND < b .epoch + 1 = omega (arith, l, epoch-read) in
+      let late : BOUND < b .epoch + 1 = omega (arith, l, epoch-read s t) in
       size-refused S calls.turn s t 42 h refl (sym (turn-size S b k ∙ rw (e, lt-leb (b .epoch + 1) BOUND late)))
       (omega arith)
 
@@ -92,7 +88,7 @@ module _ (S : rule.Settings) (s : Scalars) (t : Tables) (h : handed-refusal S (b
       → s .epoch .0 < BOUND → Stepped (steps.turn S) s t u r → Called S calls.turn s t u 0 r
   unfolding own-refusal result
   turn-done e l d =
-      let within : b .epoch + 1 ≤ BOUND = omega (arith, l, epoch-read) in
+      let within : b .epoch + 1 ≤ BOUND = omega (arith, l, epoch-read s t) in
       call-done S calls.turn s t h refl (turn-size S b k ∙ rw (e, le-leb (b .epoch + 1) BOUND within)) d
 
 -- what the tests of answer 40 ask

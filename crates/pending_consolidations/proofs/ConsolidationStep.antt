@@ -28,7 +28,7 @@ use Rattle.records.specs.Layout.{validator-at, consolidation-at}
 use Rattle.records.specs.Layout.{slashed-at, withdrawable-epoch-at, balance-at, deposits-fit}
 use Rattle.records.specs.Plain.{plain-consolidation}
 use Rattle.records.specs.Books.{Tables, tables, Stepped, Beyond, AtMost, books-of, beyond-none, beyond-then}
-use Rattle.records.specs.Reading.{validator-read, validators-count, deposits-count}
+use Rattle.records.specs.Reading.{validator-read, validators-count, deposits-count, epoch-read}
 use Rattle.records.specs.Stores.{ValidatorAdjusted}
 use Rattle.records.specs.Queues.{ConsolidationsDrained}
 use Rattle.pending_consolidations.specs.Consolidations.{waiting, Consolidated}
@@ -161,10 +161,6 @@ step-read : (S : Settings) (s : Scalars) (t : Tables)
     → process-consolidations S (waiting s t) (books-of s t) ≡ process-pending-consolidations S (books-of s t)
 unfolding process-pending-consolidations books-of
 step-read S s t = refl
-
-epoch-read : (s : Scalars) (t : Tables) → books-of s t .epoch ≡ s .epoch .0
-unfolding books-of
-epoch-read s t = refl
 
 module _ {S : Settings} {s₀ s : Scalars} {t₀ t : Tables} {i : ℕ} (h : Consolidating S s₀ t₀ s t i) where
   -- the loop ends or stops, and the entries from i on wait

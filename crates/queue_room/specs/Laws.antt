@@ -7,14 +7,14 @@ use Prim.Native.Nat.{ℕ, zero, suc, _+_, _-_, min}
 use lib.ListN.{getD, set}
 use lib.Dec.{ltb, eqb}
 use Rattle.lists.specs.Base.{adjust}
-use Rattle.lists.specs.Laws.{by-test, length-adjust}
+use Rattle.lists.specs.Laws.{by-test}
 use Rattle.rules.specs.Types.{Settings, Validator, PendingBalanceDeposit, PendingConsolidation, Books}
 use Rattle.rules.specs.Update.{with-balance, with-withdrawal-credentials}
-use Rattle.rules.specs.Helpers.{at, count, no-validator, prefix, increased, decreased, get-active-balance}
+use Rattle.rules.specs.Helpers.{at, no-validator, prefix, increased, decreased, get-active-balance}
 use Rattle.rules.specs.Helpers.{has-eth1-withdrawal-credential, with-compounding-prefix}
 use Rattle.rules.specs.Helpers.{switch-to-compounding-validator}
 use Rattle.rules.specs.EpochProcessing.{Deposited, process-deposits, move-active-balance, consolidate}
-use Rattle.rule_laws.specs.Switch.{switched, switch-form, switch-count}
+use Rattle.rule_laws.specs.Switch.{switched, switch-form}
 
 -- ---- one element changed
 
@@ -76,10 +76,6 @@ module _ (S : Settings) (c : PendingConsolidation) (b : Books) where
   pub consolidate-epoch : consolidate S c b .epoch ≡ b .epoch
   unfolding consolidate move-active-balance
   consolidate-epoch = switch-epoch S (c .target-index) b
-
-  pub consolidate-count : count (consolidate S c b) ≡ count b
-  unfolding consolidate move-active-balance
-  consolidate-count = simp length-adjust (switch-count S (c .target-index) b)
 
 -- a part of a validator that depends neither on its balance nor on its credentials
 module _ {B : Type 0} (p : Validator → B) (kept : (n : ℕ) (v : Validator) → p (with-balance n v) ≡ p v) where

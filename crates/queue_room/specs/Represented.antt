@@ -9,12 +9,13 @@ use Rattle.rules.specs.Types.{Settings, Validator, PendingBalanceDeposit, Pendi
 use Rattle.rules.specs.Helpers.{at, get-activation-exit-churn-limit}
 use Rattle.rules.specs.EpochProcessing.{Deposited, process-deposits, process-pending-balance-deposits, consolidate}
 use Rattle.rules.specs.Counting.{affordable}
+use Rattle.rule_laws.specs.Switch.{consolidate-count}
 use Rattle.primitives.specs.declared.Scalars.{Scalars}
 use Rattle.records.specs.Layout.{validator-at, deposit-at, slashed-at, withdrawable-epoch-at}
 use Rattle.records.specs.Books.{Tables, books-of}
 use Rattle.records.specs.Reading.{validators-count, validator-read}
 use Rattle.rule_laws.specs.Deposits.{process-deposits-form, credit-length}
-use Rattle.queue_room.specs.Laws.{deposits-keep, consolidate-keeps, consolidate-epoch, consolidate-count}
+use Rattle.queue_room.specs.Laws.{deposits-keep, consolidate-keeps, consolidate-epoch}
 use Rattle.queue_room.specs.Balances.{Switchable, consolidated-balances, switchable-consolidate}
 
 pub record Represented (s : Scalars) (ws w : List ℕ) (b : Books) : Type 0 where

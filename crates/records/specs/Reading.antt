@@ -1,5 +1,5 @@
--- What the books of scalars and tables are read as: counts, records, and the room that the limits need.
-use mathlib.Core.Path.{_≡_}
+-- What the books of scalars and tables are read as: the epoch, counts, records, and the room that the limits need.
+use mathlib.Core.Path.{_≡_, refl}
 use mathlib.Core.Bool.{true}
 use Prim.Native.Nat.{ℕ, _≤_, _<_}
 use native.Mathlib.Omega.{arith}
@@ -15,9 +15,13 @@ use Rattle.records.specs.Layout.{validator-at, deposit-at, partial-at, c
 use Rattle.records.specs.Layout.{identities-fit, validators-fit, deposits-fit, partials-fit, consolidations-fit}
 use Rattle.records.specs.Books.{Tables, books-of, room-of}
 
--- ---- counts and records
+-- ---- the epoch, counts and records
 
 module _ (s : Scalars) (t : Tables) where
+  pub epoch-read : books-of s t .epoch ≡ s .epoch .0
+  unfolding books-of
+  epoch-read = refl
+
   pub validators-count : count (books-of s t) ≡ s .validators
   unfolding books-of
   validators-count = length-rows (s .validators) (validator-at (t .identities) (t .validators))

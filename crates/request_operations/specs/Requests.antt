@@ -27,7 +27,7 @@ use Rattle.primitives.specs.Scalars as scalars
 use Rattle.records.specs.Layout.{validator-at, balance-at}
 use Rattle.records.specs.Queues.{PartialPushed}
 use Rattle.records.specs.Books.{Tables, tables, books-of, Stepped}
-use Rattle.records.specs.Reading.{validators-count, partials-count, validator-read}
+use Rattle.records.specs.Reading.{validators-count, partials-count, validator-read, epoch-read}
 use Rattle.acceptance.specs.Laws.{leb-shift}
 use Rattle.call_answers.specs.Tests.{fails, passes}
 
@@ -173,10 +173,6 @@ module _ (S : Settings) (s : Scalars) (t : Tables) (source-address public-key : 
       else if eqb amount 0 then request-full-exit S i (books-of s t)
       else request-partial-withdrawal S i amount (books-of s t)
 
-  epoch-read : books-of s t .epoch ≡ s .epoch .0
-  unfolding books-of
-  epoch-read = refl
-
   pub request-read : {x : Books}
       → x ≡ (if eqb (s .partials) (S .pending-partial-withdrawals-limit) && not (eqb amount 0) then books-of s t
       else requested)
@@ -184,7 +180,7 @@ module _ (S : Settings) (s : Scalars) (t : Tables) (source-address public-key : 
   unfolding books-of
   request-read e =
       rw (request-by-parts S (books-of s t) source-address public-key amount)
-      (rw (← found) (rw (partials-count s t, validators-count s t, epoch-read) e))
+      (rw (← found) (rw (partials-count s t, validators-count s t, epoch-read s t) e))
 
 module _ (S : Settings) (s : Scalars) (t : Tables) (i : ℕ) (known : i < s .validators) (v : Validator) (pending : ℕ)
     (read : v ≡ validator-at (t .identities) (t .validators) i)

@@ -9,10 +9,11 @@ use borrow.Author.Tests.{ltb-true, ltb-false, lt-ltb, le-ltb}
 use Rattle.lists.specs.Base.{if_then_else_, adjust}
 use Rattle.lists.specs.Laws.{by-test, if-true, if-false, and-false, join}
 use Rattle.lists.specs.Laws.{length-adjust, read-adjust, adjust-adjust, adjust-same}
-use Rattle.rules.specs.Types.{Settings, Validator, PendingBalanceDeposit, Books}
+use Rattle.rules.specs.Types.{Settings, Validator, PendingBalanceDeposit, PendingConsolidation, Books}
 use Rattle.rules.specs.Update.{with-balance, with-validators, with-pending-balance-deposits}
 use Rattle.rules.specs.Helpers.{at, count, no-validator, has-eth1-withdrawal-credential, with-compounding-prefix}
 use Rattle.rules.specs.Helpers.{queue-excess-active-balance, switch-to-compounding-validator}
+use Rattle.rules.specs.EpochProcessing.{move-active-balance, consolidate}
 use Rattle.rules.specs.Counting.{excess-entry}
 
 -- a validator after its switch
@@ -102,9 +103,14 @@ switch-form S i b = go (has-eth1-withdrawal-credential (at (b .validators) i)) r
     go true h = excess-form S i b h
     go false h = refl
 
--- the registry keeps its length
+-- ---- the registry keeps its length
+
 pub switch-count : (S : Settings) (i : ℕ) (b : Books) → count (switch-to-compounding-validator S i b) ≡ count b
 switch-count S i b =
     ap count (switch-form S i b)
     ∙ by-test (λ (e : Books). count e ≡ count b) (has-eth1-withdrawal-credential (at (b .validators) i))
     (λ e. length-adjust i (switched S) (b .validators)) (λ e. refl)
+
+pub consolidate-count : (S : Settings) (c : PendingConsolidation) (b : Books) → count (consolidate S c b) ≡ count b
+unfolding consolidate move-active-balance
+consolidate-count S c b = simp length-adjust (switch-count S (c .target-index) b)

@@ -21,7 +21,7 @@ use Rattle.rules.specs.Counting.{nothing, queues, _⊕_, excess-entry, excess-e
 use Rattle.rules.specs.Counting.{deposit-step-counts, consolidation-step-counts}
 use Rattle.rule_laws.specs.Deposits.{affordable-prefix, affordable-every, affordable-limit, credit-total, credit-length}
 use Rattle.rule_laws.specs.Deposits.{credited-now, waiting-still, deposit-step, deposit-step-form}
-use Rattle.rule_laws.specs.Switch.{switched, switched-books, switch-form, switch-count}
+use Rattle.rule_laws.specs.Switch.{switched, switched-books, switch-form, switch-count, consolidate-count}
 use Rattle.conservation.specs.Proofs.Flow.{Flow, quiet, still, then-flow, counted-after, choose-queued}
 
 abbrev pub deposit-amount : PendingBalanceDeposit → ℕ
@@ -142,16 +142,6 @@ module _ (S : Settings) where
         spent = omega arith;
       }
 
-  move-count : (s t : ℕ) (b : Books) → count (move-active-balance S s t b) ≡ count b
-  unfolding move-active-balance
-  move-count s t b = simp length-adjust
-
-  pub consolidate-count : (c : PendingConsolidation) (b : Books) → count (consolidate S c b) ≡ count b
-  unfolding consolidate
-  consolidate-count c b =
-      move-count (c .source-index) (c .target-index) (switch-to-compounding-validator S (c .target-index) b)
-      ∙ switch-count S (c .target-index) b
-
   pub consolidate-flow : (c : PendingConsolidation) (b : Books) → consolidation-in (count b) c ≡ true
       → Flow (queues (excess-entry S (c .target-index) b)) b (consolidate S c b)
   unfolding consolidate
@@ -174,7 +164,7 @@ module _ (S : Settings) where
   consolidations-flow (c ∷ cs) b p =
       let source = at (b .validators) (c .source-index) in
       let s = both (consolidation-in (count b) c) (every (consolidation-in (count b)) cs) p in
-      let q : every (consolidation-in (count (consolidate S c b))) cs ≡ true = rw (consolidate-count c b) (s .1) in
+      let q : every (consolidation-in (count (consolidate S c b))) cs ≡ true = rw (consolidate-count S c b) (s .1) in
       choose-queued (eqb (source .slashed) 1) (consolidations-flow cs b (s .1))
       (choose-queued (ltb (b .epoch) (source .withdrawable-epoch))
       (quiet b (with-pending-consolidations (c ∷ cs) b) refl refl refl)
