@@ -1,5 +1,5 @@
 -- The codes of calls, and the promise of the operation that a call of the file is.
-use mathlib.Core.Path.{_≡_, refl, sym, ap, _∙_, subst}
+use mathlib.Core.Path.{_≡_, refl, sym, ap, _∙_}
 use mathlib.Core.Bool.{Bool, true}
 use mathlib.Core.List.{List}
 use Prim.Native.Nat.{ℕ, zero, suc, _+_, _≤_, _<_}
@@ -9,9 +9,9 @@ use lib.Dec.{leb}
 use Rattle.rules.specs.Types as rule
 use Rattle.rules.specs.Types.{BOUND}
 use Rattle.rules.specs.Acceptance.{held}
-use Rattle.rules.specs.Calls.{Operation, turn}
+use Rattle.rules.specs.Calls.{turn}
 use Rattle.primitives.specs.declared.Scalars.{Scalars}
-use Rattle.records.specs.Books.{Tables, books-of, Called}
+use Rattle.records.specs.Books.{Tables, books-of}
 use Rattle.acceptance.specs.Handed.{facts}
 use Rattle.file_format.specs.Words.{words}
 use Rattle.file_format.specs.FieldsLaws.{impossible}
@@ -71,11 +71,6 @@ module _ {file : List ℕ} {k : ℕ} (c : CallAt file k) where
   pub turn-there : code-at (words file) k ≡ 7 → turn ≡ operation-at file k
   turn-there e =
       sym (call-value-at (words file) k ∙ ap (λ n. call-format n .value (drop (k + 1) (words file))) e)
-
--- a promise of the operation that the file holds
-pub called-as : {S : rule.Settings} {op op₂ : Operation} {s r : Scalars} {t u : Tables} {n : ℕ} → op ≡ op₂
-    → Called S op s t u n r → Called S op₂ s t u n r
-called-as {S} {s = s} {r} {t} {u} {n} e c = subst (λ o. Called S o s t u n r) e c
 
 -- ---- the sum that the books hold
 

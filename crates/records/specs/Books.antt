@@ -155,3 +155,8 @@ success {S} {op} {s} {r} {t} {u} h d = record {
   beyond = d .beyond;
   refused = λ z. absurd (z refl);
 }
+
+-- the same operation, given in another way
+pub called-as : {S : rule.Settings} {o op : Operation} {s r : Scalars} {t u : Tables} {n : ℕ} → o ≡ op
+    → Called S o s t u n r → Called S op s t u n r
+called-as e c = rw e at c

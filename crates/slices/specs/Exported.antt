@@ -106,11 +106,6 @@ module _ {xs : List ℕ} {op : Operation} {others : List Bool} {t : Tables} {s :
       promised : Called (rules-in xs) op (scalars-in s) t u n after
       promised = rw (e, b) at k
 
--- the same operation, given in another way
-pub called-as : {S : rule.Settings} {o op : Operation} {t u : Tables} {n : ℕ} {r s : Scalars} → o ≡ op
-    → Called S o s t u n r → Called S op s t u n r
-called-as e k = rw e at k
-
 -- calls that alter no books
 module _ (xs : List ℕ) (others : List Bool) (t : Tables) (s : List ℕ) {n : ℕ} {f : Bool} {settings : Settings} where
   pub asked-unfit : settings ≡ settings-in xs → f ≡ fit s others → not f ≡ true

@@ -1,5 +1,6 @@
 use borrow.Author.Needs.{needs}
-use Rattle.file_calls.specs.Laws.{called-as, sum-small, within-known}
+use Rattle.records.specs.Books.{called-as}
+use Rattle.file_calls.specs.Laws.{sum-small, within-known}
 use Rattle.file_calls.proofs.balances.deposit_receipt.Statement.{statement}
 use Rattle.file_calls.proofs.balances.deposit_receipt.Tie as tie
 

@@ -1,6 +1,6 @@
 use native.Mathlib.Omega.{arith}
 use borrow.Author.Needs.{needs}
-use Rattle.file_calls.specs.Laws.{called-as}
+use Rattle.records.specs.Books.{called-as}
 use Rattle.file_calls.proofs.balances.penalty.Statement.{statement}
 use Rattle.file_calls.proofs.balances.penalty.Tie as tie
 

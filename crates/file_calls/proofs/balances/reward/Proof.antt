@@ -1,6 +1,7 @@
 use native.Mathlib.Omega.{arith}
 use borrow.Author.Needs.{needs}
-use Rattle.file_calls.specs.Laws.{called-as, sum-small, within-known}
+use Rattle.records.specs.Books.{called-as}
+use Rattle.file_calls.specs.Laws.{sum-small, within-known}
 use Rattle.file_calls.proofs.balances.reward.Statement.{statement}
 use Rattle.file_calls.proofs.balances.reward.Tie as tie
 

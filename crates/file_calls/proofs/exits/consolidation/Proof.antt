@@ -1,5 +1,5 @@
 use borrow.Author.Needs.{needs}
-use Rattle.file_calls.specs.Laws.{called-as}
+use Rattle.records.specs.Books.{called-as}
 use Rattle.file_calls.proofs.exits.consolidation.Statement.{statement}
 use Rattle.file_calls.proofs.exits.consolidation.Tie as tie
 

@@ -1,5 +1,5 @@
 use borrow.Author.Needs.{needs}
-use Rattle.file_calls.specs.Laws.{called-as}
+use Rattle.records.specs.Books.{called-as}
 use Rattle.file_calls.proofs.exits.withdrawal_request.Statement.{statement}
 use Rattle.file_calls.proofs.exits.withdrawal_request.Tie as tie
 use Rattle.request_operations.proofs.process_execution_layer_withdrawal_request.Reads as

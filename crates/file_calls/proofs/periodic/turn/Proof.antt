@@ -1,5 +1,6 @@
 use borrow.Author.Needs.{needs}
-use Rattle.file_calls.specs.Laws.{called-as, turn-there}
+use Rattle.records.specs.Books.{called-as}
+use Rattle.file_calls.specs.Laws.{turn-there}
 use Rattle.file_calls.proofs.periodic.turn.Statement.{statement}
 use Rattle.file_calls.proofs.periodic.turn.Tie as tie
 

@@ -5,7 +5,8 @@ use lib.Dec.{eqb}
 use lib.ListN.{length}
 use borrow.Author.Tests.{eqb-true}
 use Rattle.rules.specs.Calls.{deposit-receipt}
-use Rattle.slices.specs.Exported.{fit-room, fit-test, exported-unfit, exported-called, called-as}
+use Rattle.records.specs.Books.{called-as}
+use Rattle.slices.specs.Exported.{fit-room, fit-test, exported-unfit, exported-called}
 use borrow.Author.Needs.{needs}
 use Rattle.solarbasil.proofs.deposit_receipts.solarbasil_process_deposit_receipt.Statement.{statement}
 use Rattle.solarbasil.proofs.deposit_receipts.solarbasil_process_deposit_receipt.Tie as tie

@@ -6,7 +6,8 @@ use lib.Dec.{leb}
 use lib.ListN.{length}
 use Rattle.rules.specs.Calls.{withdrawals}
 use Rattle.expected_withdrawals.specs.Expected.{handed-list}
-use Rattle.slices.specs.Exported.{fit-room, exported-unfit, exported-called, called-as}
+use Rattle.records.specs.Books.{called-as}
+use Rattle.slices.specs.Exported.{fit-room, exported-unfit, exported-called}
 use borrow.Author.Needs.{needs}
 use Rattle.solarbasil.proofs.payments.solarbasil_process_withdrawals.Statement.{statement}
 use Rattle.solarbasil.proofs.payments.solarbasil_process_withdrawals.Tie as tie

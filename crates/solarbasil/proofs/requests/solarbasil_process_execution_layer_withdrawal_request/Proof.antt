@@ -5,7 +5,8 @@ use lib.Dec.{eqb}
 use lib.ListN.{length}
 use borrow.Author.Tests.{eqb-true}
 use Rattle.rules.specs.Calls.{withdrawal-request}
-use Rattle.slices.specs.Exported.{fit-room, fit-test, exported-unfit, exported-called, called-as}
+use Rattle.records.specs.Books.{called-as}
+use Rattle.slices.specs.Exported.{fit-room, fit-test, exported-unfit, exported-called}
 use borrow.Author.Needs.{needs}
 use Rattle.solarbasil.proofs.requests.solarbasil_process_execution_layer_withdrawal_request.Statement.{
   statement,
