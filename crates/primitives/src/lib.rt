@@ -2,7 +2,7 @@
 pub mod answers; // the numbers of the answers
 
 ghost use mathlib.Core.Path.{_≡_};
-ghost use Prim.Native.Nat.{min, max};
+ghost use Prim.Native.Nat.{_-_, min, max};
 ghost use Rattle.rules.specs.Profiles.{mainnet-row};
 ghost use Rattle.primitives.specs.Profiles.{row-settings};
 ghost use Rattle.primitives.specs.Scalars.{with-epoch, with-next-withdrawal, with-receipts-start};
@@ -41,6 +41,12 @@ pub fn min_usize(a: usize, b: usize) -> usize
     ensures { λ r. ⌜ r ≡ min a b ⌝ }
 {
     if a < b { a } else { b }
+}
+
+pub fn saturating_sub(a: u64, b: u64) -> u64
+    ensures { λ r. ⌜ r ≡ a - b ⌝ }
+{
+    if a < b { 0 } else { a - b }
 }
 
 // The fifteen chain values, then the limits of the registry and of the three queues.

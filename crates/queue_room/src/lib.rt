@@ -4,11 +4,12 @@ use primitives::Gwei;
 use primitives::Scalars;
 use primitives::Settings;
 use primitives::ValidatorIndex;
+use primitives::saturating_sub;
 use records::queues::PendingBalanceDeposit;
 use records::queues::PendingConsolidation;
 ghost use mathlib.Core.Path.{_≡_};
 ghost use mathlib.Core.List.{List};
-ghost use Prim.Native.Nat.{ℕ, _+_, _-_, _<_, _≤_, _^_};
+ghost use Prim.Native.Nat.{ℕ, _+_, _<_, _≤_, _^_};
 ghost use lib.ListN.{length, getD};
 ghost use lib.Dec.{leb};
 ghost use Rattle.rules.specs.Types as rule;
@@ -27,12 +28,6 @@ ghost use Rattle.queue_room.specs.Ready.{RegistryReady, ConsolidationsRe
 ghost use Rattle.queue_room.specs.Ready.{AllowanceReady};
 
 // ---- one balance
-
-fn saturating_sub(a: u64, b: u64) -> u64
-    ensures { λ r. ⌜ r ≡ a - b ⌝ }
-{
-    if a < b { 0 } else { a - b }
-}
 
 // An amount of a validator that can switch: its prefix is 01.
 fn switchable_amount(prefix: u8, amount: Gwei) -> u64

@@ -4,9 +4,10 @@ use crate::validator::Validator;
 use primitives::Epoch;
 use primitives::Gwei;
 use primitives::ValidatorIndex;
+use primitives::saturating_sub;
 ghost use mathlib.Core.Path.{_≡_};
 ghost use mathlib.Core.List.{List};
-ghost use Prim.Native.Nat.{ℕ, _+_, _-_, _*_, _<_, _^_};
+ghost use Prim.Native.Nat.{ℕ, _+_, _*_, _<_, _^_};
 ghost use Rattle.lists.specs.Base.{same-bytes};
 ghost use Rattle.rules.specs.Update.{with-balance, with-effective-balance, with-exit};
 ghost use Rattle.rules.specs.Helpers.{prefix, increased, decreased, active-effective-balance, with-compounding-prefix};
@@ -215,12 +216,6 @@ pub fn increase_balance(validators: &mut [u64], i: ValidatorIndex, delta: Gwei)
 {
     let increased = word_at(validators, 6, i) + delta.0;
     set_word(validators, 6, i, increased);
-}
-
-fn saturating_sub(a: u64, b: u64) -> u64
-    ensures { λ r. ⌜ r ≡ a - b ⌝ }
-{
-    if a < b { 0 } else { a - b }
 }
 
 // A balance stops at 0.
