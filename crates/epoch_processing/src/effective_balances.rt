@@ -61,7 +61,7 @@ fn update_effective_balance(
     if !needs_update(effective_balance, balance, downward, upward) {
         return;
     }
-    let most = pending_consolidations::balances::max_effective_balance_at(settings, identities, i);
+    let most = records::registry::max_effective_balance_at(settings, identities, i);
     let rounded = balance.0 - balance.0 % settings.effective_balance_increment.0;
     let updated = primitives::min(Gwei(rounded), most);
     records::registry::set_effective_balance(validators, i, updated);

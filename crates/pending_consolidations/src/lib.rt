@@ -1,5 +1,5 @@
 // process_pending_consolidations: entries are consolidated in order, up to the first whose source is not withdrawable.
-pub mod balances; // what the epoch's steps read of a validator's balance
+pub mod balances; // what the step reads of a validator's balance
 
 use primitives::Scalars;
 use primitives::Settings;

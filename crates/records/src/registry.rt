@@ -3,6 +3,7 @@
 use crate::validator::Validator;
 use primitives::Epoch;
 use primitives::Gwei;
+use primitives::Settings;
 use primitives::ValidatorIndex;
 use primitives::saturating_sub;
 ghost use mathlib.Core.Path.{_≡_};
@@ -11,6 +12,8 @@ ghost use Prim.Native.Nat.{ℕ, _+_, _*_, _<_, _^_};
 ghost use Rattle.lists.specs.Base.{same-bytes};
 ghost use Rattle.rules.specs.Update.{with-balance, with-effective-balance, with-exit};
 ghost use Rattle.rules.specs.Helpers.{prefix, increased, decreased, active-effective-balance, with-compounding-prefix};
+ghost use Rattle.rules.specs.Helpers.{get-validator-max-effective-balance};
+ghost use Rattle.primitives.specs.Settings.{settings-of};
 ghost use Rattle.records.specs.Layout.{public-key-at, withdrawal-credentials-at, validator-at};
 ghost use Rattle.records.specs.Layout.{slashed-at, effective-balance-at, activation-eligibility-epoch-at};
 ghost use Rattle.records.specs.Layout.{activation-epoch-at, exit-epoch-at, withdrawable-epoch-at};
@@ -139,6 +142,21 @@ pub fn prefix_at(identities: &[u8], i: ValidatorIndex) -> u8
     ensures { λ r. ⌜ r ≡ prefix (withdrawal-credentials-at (now (identities .entry)) (i .0)) ⌝ }
 {
     identities[credentials_place(identities, i)]
+}
+
+// get_validator_max_effective_balance: byte 0 of the credentials decides.
+pub fn max_effective_balance_at(settings: Settings, identities: &[u8], i: ValidatorIndex) -> Gwei
+    requires { ⌜ i .0 < identities-fit (now identities) ⌝ }
+    ensures { λ r. ⌜
+        ((ws : List ℕ)
+        → r .0 ≡ get-validator-max-effective-balance (settings-of settings)
+        (validator-at (now (identities .entry)) ws (i .0)))
+        ⌝ }
+{
+    if prefix_at(identities, i) == 2 {
+        return settings.max_effective_balance_electra;
+    }
+    settings.min_activation_balance
 }
 
 // What the validator adds to the total active balance.

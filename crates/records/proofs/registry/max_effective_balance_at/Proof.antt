@@ -4,9 +4,9 @@ use borrow.Author.Needs.{needs}
 use borrow.Author.Tests.{eq-eqb, ne-eqb}
 use Rattle.lists.specs.Laws.{if-true, if-false}
 use Rattle.rules.specs.Helpers.{prefix}
 use Rattle.records.specs.Layout.{withdrawal-credentials-at}
-use Rattle.pending_consolidations.proofs.balances.max_effective_balance_at.Statement.{statement}
-use Rattle.pending_consolidations.proofs.balances.max_effective_balance_at.Tie as tie
+use Rattle.records.proofs.registry.max_effective_balance_at.Statement.{statement}
+use Rattle.records.proofs.registry.max_effective_balance_at.Tie as tie
 
 -- byte 0 of the credentials
 abbrev byte : tie.Start → ℕ
