@@ -20,7 +20,7 @@ use Rattle.records.specs.Books.{Stepped, books-of, tables, beyond-none}
 use Rattle.records.specs.Reading.{validator-read}
 use Rattle.records.specs.Stores.{ValidatorAdjusted, IdentityAdjusted}
 use Rattle.records.specs.Queues.{DepositPushed}
-use Rattle.compounding.specs.Laws.{entries-queued, entries-none, entries-some}
+use Rattle.compounding.specs.Laws.{excess-entry-count, entries-none, entries-some}
 
 -- ---- the excess
 
@@ -92,11 +92,12 @@ module _ (S : Settings) (i : ℕ) (s : Scalars) (ids vs ds : List ℕ) (known : 
 
   module _ (compounds : prefix (withdrawal-credentials-at ids i) ≡ 1) where
     pub entries-read : (ps cs : List ℕ)
-        → length (excess-entry S i (books-of s (tables ids vs ds ps cs))) ≡ entries-queued S (balance-at vs i)
+        → length (excess-entry S i (books-of s (tables ids vs ds ps cs)))
+        ≡ excess-entry-count (S .min-activation-balance) (balance-at vs i)
     entries-read ps cs =
         entries-some S i (books-of s (tables ids vs ds ps cs))
         (eth1-read ps cs ∙ eq-eqb (prefix (withdrawal-credentials-at ids i)) 1 compounds)
-        ∙ ap (entries-queued S) (balance-read S i s vs ds known ids ps cs)
+        ∙ ap (excess-entry-count (S .min-activation-balance)) (balance-read S i s vs ds known ids ps cs)
 
     prefixed : (new-ids : List ℕ) → IdentityAdjusted i with-compounding-prefix ids new-ids → (ps cs : List ℕ)
         → books-of s (tables new-ids vs ds ps cs)

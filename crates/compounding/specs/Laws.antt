@@ -14,14 +14,14 @@ use Rattle.rules.specs.Helpers.{at, has-eth1-withdrawal-credential}
 use Rattle.rules.specs.Counting.{excess-entry}
 
 -- how many queue_excess_active_balance queues at this balance
-abbrev pub entries-queued : Settings → ℕ → ℕ
-entries-queued S balance = if ltb (S .min-activation-balance) balance then 1 else 0
+abbrev pub excess-entry-count : (minimum balance : ℕ) → ℕ
+excess-entry-count minimum balance = if ltb minimum balance then 1 else 0
 
-pub entries-low : (S : Settings) (balance : ℕ) → balance ≤ S .min-activation-balance → entries-queued S balance ≡ 0
-entries-low S balance h = if-false _ _ _ (le-ltb (S .min-activation-balance) balance h)
+pub entries-low : (minimum balance : ℕ) → balance ≤ minimum → excess-entry-count minimum balance ≡ 0
+entries-low minimum balance h = if-false _ _ _ (le-ltb minimum balance h)
 
-pub entries-high : (S : Settings) (balance : ℕ) → S .min-activation-balance < balance → entries-queued S balance ≡ 1
-entries-high S balance h = if-true _ _ _ (lt-ltb (S .min-activation-balance) balance h)
+pub entries-high : (minimum balance : ℕ) → minimum < balance → excess-entry-count minimum balance ≡ 1
+entries-high minimum balance h = if-true _ _ _ (lt-ltb minimum balance h)
 
 -- an excess is above 0 where the balance is above the minimum
 excess-some : (least balance : ℕ) → ltb 0 (balance - least) ≡ ltb least balance
@@ -37,7 +37,7 @@ module _ (S : Settings) (i : ℕ) (b : Books) where
   entries-none e = rw e
 
   pub entries-some : has-eth1-withdrawal-credential (at (b .validators) i) ≡ true
-      → length (excess-entry S i b) ≡ entries-queued S (at (b .validators) i .balance)
+      → length (excess-entry S i b) ≡ excess-entry-count (S .min-activation-balance) (at (b .validators) i .balance)
   unfolding excess-entry if_then_else_
   entries-some e =
       rw (e, excess-some (S .min-activation-balance) (at (b .validators) i .balance))

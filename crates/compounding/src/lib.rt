@@ -14,7 +14,14 @@ ghost use Rattle.primitives.specs.Settings.{settings-of};
 ghost use Rattle.primitives.specs.Scalars.{with-deposits};
 ghost use Rattle.records.specs.Layout.{balance-at, identities-fit, validators-fit, deposits-fit};
 ghost use Rattle.records.specs.Books.{Stepped, books-of, tables};
-ghost use Rattle.compounding.specs.Laws.{entries-queued};
+ghost use Rattle.compounding.specs.Laws.{excess-entry-count};
+
+// A switch queues an entry where the balance is above the minimum.
+pub fn excess_entry_count(minimum: Gwei, balance: u64) -> usize
+    ensures { λ r. ⌜ r ≡ excess-entry-count (minimum .0) balance ⌝ }
+{
+    if minimum.0 < balance { 1 } else { 0 }
+}
 
 // The balance above the minimum goes behind the waiting deposits.
 fn queue_excess_active_balance(
@@ -26,7 +33,8 @@ fn queue_excess_active_balance(
 ) -> Scalars
     requires { ⌜ (i .0 < scalars .validators) × (scalars .validators ≤ validators-fit (now validators)) ⌝ }
     requires { ⌜
-        scalars .deposits + entries-queued (settings-of settings) (balance-at (now validators) (i .0))
+        scalars .deposits
+        + excess-entry-count (settings .«min_activation_balance» .0) (balance-at (now validators) (i .0))
         ≤ deposits-fit (now deposits)
         ⌝ }
     ensures { λ r. ⌜
@@ -38,7 +46,8 @@ fn queue_excess_active_balance(
     ensures { λ r. ⌜
         r ≡ with-deposits scalars
         (scalars .deposits
-        + entries-queued (settings-of settings) (balance-at (now (validators .entry)) (i .0)))
+        + excess-entry-count (settings .«min_activation_balance» .0)
+        (balance-at (now (validators .entry)) (i .0)))
         ⌝ }
 {
     let n = scalars.deposits;

@@ -18,7 +18,8 @@ use Rattle.rules.specs.Acceptance.{consolidation-in}
 use Rattle.rules.specs.Counting.{excess-entry, excess-entries}
 use Rattle.primitives.specs.declared.Scalars.{Scalars}
 use Rattle.records.specs.Layout.{slashed-at, withdrawable-epoch-at, consolidation-at}
-use Rattle.queue_room.specs.Balances.{excess-entry-count, excess-entry-length, consolidated-balances}
+use Rattle.compounding.specs.Laws.{excess-entry-count}
+use Rattle.queue_room.specs.Balances.{excess-entry-length, consolidated-balances}
 use Rattle.queue_room.specs.Represented.{Represented, represented-consolidate}
 
 -- k of the consolidations cs are passed, `found` entries counted, and `now` are the books that this leaves

@@ -12,8 +12,8 @@ use native.Mathlib.Decide.{ℕ-discrete}
 use native.Mathlib.Omega.{arith}
 use lib.ListN.{length, getD, set, length-set}
 use lib.Seq.{getD-set-same, getD-set-other}
-use lib.Dec.{ltb, eqb}
-use borrow.Author.Tests.{ltb-true, ltb-false, lt-ltb, le-ltb, eqb-true, ne-eqb}
+use lib.Dec.{eqb}
+use borrow.Author.Tests.{eqb-true, ne-eqb}
 use Rattle.lists.specs.Base.{if_then_else_, adjust}
 use Rattle.lists.specs.Laws.{by-test, if-true, if-false, getD-adjust}
 use Rattle.rules.specs.Types.{Settings, Validator, PendingConsolidation, Books}
@@ -23,6 +23,7 @@ use Rattle.rules.specs.Helpers.{switch-to-compounding-validator}
 use Rattle.rules.specs.EpochProcessing.{move-active-balance, consolidate}
 use Rattle.rules.specs.Counting.{excess-entry}
 use Rattle.rule_laws.specs.Switch.{switch-count}
+use Rattle.compounding.specs.Laws.{excess-entry-count, entries-low, entries-none, entries-some}
 use Rattle.queue_room.specs.Laws.{adjust-other, adjust-keeps, switch-done, switch-other}
 
 -- ---- definitions
@@ -50,10 +51,6 @@ consolidated-balances minimum s t w =
 -- after an amount is credited to validator i, which has this prefix
 abbrev pub credited-balances : (i prefix amount : ℕ) → List ℕ → List ℕ
 credited-balances i p amount w = set w i (getD w i 0 + switchable-amount p amount)
-
--- how many entries a switch queues at this balance
-abbrev pub excess-entry-count : (minimum balance : ℕ) → ℕ
-excess-entry-count minimum balance = if ltb minimum balance then 1 else 0
 
 -- ---- one validator
 
@@ -104,22 +101,16 @@ switchable-decreased S v = go (has-eth1-withdrawal-credential v) refl
 pub excess-entry-length : (S : Settings) (i : ℕ) (b : Books)
     → length (excess-entry S i b)
     ≡ excess-entry-count (S .min-activation-balance) (switchable-balance (at (b .validators) i))
-unfolding excess-entry switchable-balance if_then_else_
-excess-entry-length S i b =
-    let v = at (b .validators) i in
-    go (has-eth1-withdrawal-credential v) (ltb (S .min-activation-balance) (v .balance)) refl refl
+excess-entry-length S i b = go (has-eth1-withdrawal-credential (at (b .validators) i)) refl
   where
-    go : (t u : Bool) → has-eth1-withdrawal-credential (at (b .validators) i) ≡ t
-        → ltb (S .min-activation-balance) (at (b .validators) i .balance) ≡ u
+    go : (t : Bool) → has-eth1-withdrawal-credential (at (b .validators) i) ≡ t
         → length (excess-entry S i b)
         ≡ excess-entry-count (S .min-activation-balance) (switchable-balance (at (b .validators) i))
-    go true true e f =
-        let h = ltb-true (S .min-activation-balance) (at (b .validators) i .balance) f in
-        rw (e, f, lt-ltb 0 (at (b .validators) i .balance - S .min-activation-balance) (omega (arith, h)))
-    go true false e f =
-        let h = ltb-false (S .min-activation-balance) (at (b .validators) i .balance) f in
-        rw (e, f, le-ltb 0 (at (b .validators) i .balance - S .min-activation-balance) (omega (arith, h)))
-    go false u e f = rw (e, le-ltb (S .min-activation-balance) 0 (omega arith))
+    go true e = entries-some S i b e ∙ ap (excess-entry-count (S .min-activation-balance)) (sym (can-switch _ e))
+    go false e =
+        entries-none S i b e
+        ∙ sym (entries-low (S .min-activation-balance) 0 (omega arith))
+        ∙ ap (excess-entry-count (S .min-activation-balance)) (sym (cannot-switch _ e))
 
 -- ---- all validators
 

@@ -19,7 +19,8 @@ ghost use Rattle.rules.specs.Counting.{excess-entries};
 ghost use Rattle.primitives.specs.Settings.{settings-of};
 ghost use Rattle.records.specs.Layout.{withdrawal-credentials-at, identities-fit, validators-fit};
 ghost use Rattle.records.specs.Books.{tables, books-of};
-ghost use Rattle.queue_room.specs.Balances.{Switchable, switchable-amount, excess-entry-count};
+ghost use Rattle.compounding.specs.Laws.{excess-entry-count};
+ghost use Rattle.queue_room.specs.Balances.{Switchable, switchable-amount};
 ghost use Rattle.queue_room.specs.Balances.{credited-balances, consolidated-balances};
 ghost use Rattle.queue_room.specs.Represented.{Represented, DepositsProcessed};
 ghost use Rattle.queue_room.specs.Room.{queued, available-amount};
@@ -34,13 +35,6 @@ fn switchable_amount(prefix: u8, amount: Gwei) -> u64
     ensures { λ r. ⌜ r ≡ switchable-amount prefix (amount .0) ⌝ }
 {
     if prefix == 1 { amount.0 } else { 0 }
-}
-
-// A switch queues an entry where the balance is above the minimum.
-fn excess_entry_count(minimum: Gwei, balance: u64) -> usize
-    ensures { λ r. ⌜ r ≡ excess-entry-count (minimum .0) balance ⌝ }
-{
-    if minimum.0 < balance { 1 } else { 0 }
 }
 
 // ---- the balances of the validators that can switch, and 0 for the others
@@ -128,7 +122,7 @@ fn consolidate(minimum: Gwei, c: PendingConsolidation, balances: &mut [u64; 6553
 {
     let source = c.source_index.0;
     let target = c.target_index.0;
-    let entries = excess_entry_count(minimum, balances[target]);
+    let entries = compounding::excess_entry_count(minimum, balances[target]);
     balances[target] = 0;
     balances[source] = saturating_sub(balances[source], minimum.0);
     entries

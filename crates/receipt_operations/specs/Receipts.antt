@@ -30,7 +30,7 @@ use Rattle.records.specs.Books.{Tables, tables, books-of, Stepped, AtMost, beyo
 use Rattle.records.specs.Reading.{validators-count, deposits-count, validator-read}
 use Rattle.acceptance.specs.Handed.{Facts}
 use Rattle.acceptance.specs.Held.{held-form}
-use Rattle.compounding.specs.Laws.{entries-queued, entries-some}
+use Rattle.compounding.specs.Laws.{excess-entry-count, entries-some}
 use Rattle.call_answers.specs.Answers.{Judged}
 use Rattle.call_answers.specs.Tests.{fails, passes}
 
@@ -128,8 +128,9 @@ known-deposit S i amount switch b =
     let queued = queue-deposit i amount b in
     if switch then switch-to-compounding-validator S i queued else queued
 
-pub few-entries : (S : Settings) (balance : ℕ) (switch : Bool) → (if switch then entries-queued S balance else 0) ≤ 1
-few-entries S balance switch =
+pub few-entries : (minimum balance : ℕ) (switch : Bool)
+    → (if switch then excess-entry-count minimum balance else 0) ≤ 1
+few-entries minimum balance switch =
     let P : ℕ → Type 0 = λ n. n ≤ 1 in
     by-test P switch (λ e. by-test P _ (λ f. omega arith) (λ f. omega arith)) (λ e. omega arith)
 
@@ -140,13 +141,13 @@ module _ (S : Settings) (s : Scalars) (t : Tables) (i : ℕ) (known : i < s .val
 
   -- how many entries the switch queues
   pub entries-known : has-eth1-withdrawal-credential v ≡ true
-      → length (excess-entry S i (books-of s t)) ≡ entries-queued S (v .balance)
+      → length (excess-entry S i (books-of s t)) ≡ excess-entry-count (S .min-activation-balance) (v .balance)
   entries-known e =
       entries-some S i (books-of s t) (ap has-eth1-withdrawal-credential at-read ∙ e)
-      ∙ ap (λ (w : Validator). entries-queued S (w .balance)) at-read
+      ∙ ap (λ (w : Validator). excess-entry-count (S .min-activation-balance) (w .balance)) at-read
 
   more : (switch : Bool) → (switch ≡ true → has-eth1-withdrawal-credential v ≡ true)
-      → (if switch then entries-queued S (v .balance) else 0)
+      → (if switch then excess-entry-count (S .min-activation-balance) (v .balance) else 0)
       ≡ length (if switch then excess-entry S i (books-of s t) else [])
   unfolding if_then_else_
   more true h = sym (entries-known (h refl))
@@ -154,7 +155,7 @@ module _ (S : Settings) (s : Scalars) (t : Tables) (i : ℕ) (known : i < s .val
 
   pub known-number : SoundBooks S (books-of s t) → (amount entries : ℕ) (switch : Bool)
       → (switch ≡ true → has-eth1-withdrawal-credential v ≡ true)
-      → entries ≡ (if switch then entries-queued S (v .balance) else 0)
+      → entries ≡ (if switch then excess-entry-count (S .min-activation-balance) (v .balance) else 0)
       → size-number (leb (s .deposits + 1 + entries) (S .pending-balance-deposits-limit))
       (leb (held (books-of s t) + amount) BOUND) true
       ≡ size-refusal S (known-deposit S i amount switch (books-of s t))
@@ -169,14 +170,14 @@ module _ (S : Settings) (s : Scalars) (t : Tables) (i : ℕ) (known : i < s .val
 -- the switch's entry finds room behind the deposit's own
 pub switch-room : (S : Settings) (s q : Scalars) (i : ℕ) → i < s .validators → (v : Validator) (ids vs ds us : List ℕ)
     → v ≡ validator-at ids vs i → has-eth1-withdrawal-credential v ≡ true → (entries : ℕ) (switch : Bool)
-    → switch ≡ true → entries ≡ (if switch then entries-queued S (v .balance) else 0)
+    → switch ≡ true → entries ≡ (if switch then excess-entry-count (S .min-activation-balance) (v .balance) else 0)
     → s .deposits + 1 + entries ≤ deposits-fit ds → length us ≡ length ds
     → q ≡ scalars.with-deposits s (s .deposits + 1) → (ps cs : List ℕ)
     → q .deposits + length (excess-entry S i (books-of q (tables ids vs us ps cs))) ≤ deposits-fit us
 switch-room S s q i known v ids vs ds us read eth1 entries switch on e room kept grown ps cs =
     let after : Scalars = scalars.with-deposits s (s .deposits + 1) in
     let counted = entries-known S after (tables ids vs us ps cs) i known v read eth1 in
-    rw grown (omega (arith, counted, e ∙ if-true switch (entries-queued S (v .balance)) 0 on, room, kept))
+    rw grown (omega (arith, counted, e ∙ if-true switch _ 0 on, room, kept))
 
 -- the stores
 module _ (S : Settings) (s : Scalars) (i amount : ℕ) (ids vs ds us : List ℕ)

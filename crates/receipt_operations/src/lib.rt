@@ -26,7 +26,7 @@ ghost use Rattle.primitives.specs.Settings.{settings-of};
 ghost use Rattle.records.specs.Layout.{validator-at};
 ghost use Rattle.records.specs.Plain.{plain-validator};
 ghost use Rattle.records.specs.Books.{tables, books-of, room-of, Called};
-ghost use Rattle.compounding.specs.Laws.{entries-queued};
+ghost use Rattle.compounding.specs.Laws.{excess-entry-count};
 ghost use Rattle.call_answers.specs.Answers.{Judged};
 ghost use Rattle.receipt_operations.specs.Receipts.{started, known-deposit, ReceiptReady};
 
@@ -52,15 +52,14 @@ fn switches(withdrawal_credentials: [u8; 32], valid: bool, v: Validator) -> bool
 
 // How many entries a switch of validator v queues.
 fn queued_by_switch(settings: Settings, v: Validator, switch: bool) -> usize
-    ensures { λ r. ⌜ r ≡ (if switch then entries-queued (settings-of settings) (v .balance .0) else 0) ⌝ }
+    ensures { λ r. ⌜
+        r ≡ (if switch then excess-entry-count (settings .«min_activation_balance» .0) (v .balance .0) else 0)
+        ⌝ }
 {
     if !switch {
         return 0;
     }
-    if settings.min_activation_balance.0 < v.balance.0 {
-        return 1;
-    }
-    0
+    compounding::excess_entry_count(settings.min_activation_balance, v.balance.0)
 }
 
 // The deposit's own entry, then the switch's.

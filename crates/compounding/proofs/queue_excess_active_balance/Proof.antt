@@ -24,7 +24,7 @@ returns c =
     let low : balance ≤ S .min-activation-balance = omega arith in (
       not-queued S (a .i .0) (a .scalars) (a .validators .now) (a .deposits .now)
           (c .before .before .before .before .before .before .before .before .pre .0 .0) low,
-      rw (entries-low S balance low, add-zero (a .scalars .deposits)),
+      rw (entries-low (S .min-activation-balance) balance low, add-zero (a .scalars .deposits)),
     )
 
 sub-t13 : tie.Need-sub-t13
@@ -39,7 +39,7 @@ push-deposit-requires c κs =
     c .before .before .before .before .before .before .before .before .before .before .before .before .before
     .before .before .args in
     let balance = balance-at (a .validators .now) (a .i .0) in
-    omega (arith, entries-high (settings-of (a .settings)) balance (omega arith))
+    omega (arith, entries-high (settings-of (a .settings) .min-activation-balance) balance (omega arith))
 
 add-with-deposits : tie.Need-add-with-deposits
 add-with-deposits c = search needs
@@ -76,7 +76,7 @@ returns-2 c =
           .before .before .before .before .before .before .before .pre .0 .0) high _ _
           (c .before .before .before .before .before .before .before .set-balance .ensures)
           (rw read at (c .before .before .before .push-deposit .ensures)),
-      rw (entries-high S balance high),
+      rw (entries-high (S .min-activation-balance) balance high),
     )
 
 pub queue-excess-active-balance-spec : {M : Type 1} → statement M

@@ -35,7 +35,8 @@ add-within-2 c =
     omega (
       arith,
       c .queued-by-switch .ensures,
-      few-entries (settings-of (start .args .settings)) (start .args .v .balance .0) (start .args .switch),
+      few-entries (settings-of (start .args .settings) .min-activation-balance) (start .args .v .balance .0)
+          (start .args .switch),
       start .pre .0 .queued,
       start .pre .0 .most-queued,
     )
