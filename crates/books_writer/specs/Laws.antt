@@ -9,12 +9,11 @@ use lib.ListN.{length, take, drop, length-append}
 use lib.Seq.{take-at}
 use borrow.Author.Tests.{lt-ltb, le-ltb, ne-eqb}
 use Rattle.lists.specs.Base.{if_then_else_, every}
-use Rattle.tables.specs.Rows.{rows}
 use Rattle.rules.specs.Types.{Settings}
 use Rattle.rules.specs.Calls.{handed-refusal}
 use Rattle.primitives.specs.declared.Scalars.{Scalars}
 use Rattle.records.specs.Layout.{validator-at, deposit-at, partial-at, consolidation-at}
-use Rattle.records.specs.Books.{Tables, books-of, room-of}
+use Rattle.records.specs.Books.{Tables, books-of, room-of, consolidations-of, deposits-of, partials-of, validators-of}
 use Rattle.records.specs.Reading.{validators-count, deposits-count, partials-count, consolidations-count}
 use Rattle.acceptance.specs.Handed.{accepted, facts}
 use Rattle.file_format.specs.Words.{words, is-byte, bytes, end-word, with-end}
@@ -35,16 +34,16 @@ use Rattle.books_writer.specs.Sized.{tables-sized}
 
 module _ (S : Settings) (s : Scalars) (t : Tables) (k : Ready s t) where
   abbrev vs : List ℕ
-  vs = list-of validator .write (rows (s .validators) (validator-at (t .identities) (t .validators)))
+  vs = list-of validator .write (validators-of s (t .identities) (t .validators))
 
   abbrev ds : List ℕ
-  ds = list-of deposit .write (rows (s .deposits) (deposit-at (t .deposits)))
+  ds = list-of deposit .write (deposits-of s (t .deposits))
 
   abbrev ps : List ℕ
-  ps = list-of partial .write (rows (s .partials) (partial-at (t .partials)))
+  ps = list-of partial .write (partials-of s (t .partials))
 
   abbrev cs : List ℕ
-  cs = list-of consolidation .write (rows (s .consolidations) (consolidation-at (t .consolidations)))
+  cs = list-of consolidation .write (consolidations-of s (t .consolidations))
 
   vs-length : length vs ≡ 1 + s .validators * 46
   vs-length =

@@ -6,13 +6,11 @@ use mathlib.Core.Option.{some}
 use Prim.Native.Nat.{ℕ, _+_, _*_, _≤_}
 use lib.ListN.{length, take}
 use Rattle.lists.specs.Base.{every}
-use Rattle.tables.specs.Rows.{rows}
 use Rattle.rules.specs.Types.{Settings}
 use Rattle.rules.specs.Acceptance.{is-flag}
 use Rattle.primitives.specs.declared.Scalars.{Scalars}
-use Rattle.records.specs.Layout.{validator-at}
 use Rattle.records.specs.Layout.{identities-fit, validators-fit, deposits-fit, partials-fit, consolidations-fit}
-use Rattle.records.specs.Books.{Tables, books-of, room-of}
+use Rattle.records.specs.Books.{Tables, books-of, room-of, validators-of}
 use Rattle.file_format.specs.Answers.{write-answer, over}
 use Rattle.file_format.specs.File.{write-books, read-books}
 
@@ -42,4 +40,4 @@ pub record Ready (s : Scalars) (t : Tables) : Type 0 where
   pub most-deposits : s .deposits ≤ 65536
   pub most-partials : s .partials ≤ 65536
   pub most-consolidations : s .consolidations ≤ 65536
-  pub flags : every is-flag (rows (s .validators) (validator-at (t .identities) (t .validators))) ≡ true
+  pub flags : every is-flag (validators-of s (t .identities) (t .validators)) ≡ true

@@ -19,7 +19,7 @@ use Rattle.rules.specs.EpochProcessing.{needs-update, updated, process-effectiv
 use Rattle.rule_laws.specs.Accepted.{SoundSettings}
 use Rattle.primitives.specs.declared.Scalars.{Scalars}
 use Rattle.records.specs.Layout.{validator-at, effective-balance-at, balance-at, validators-past}
-use Rattle.records.specs.Books.{tables, Stepped, books-of}
+use Rattle.records.specs.Books.{tables, Stepped, books-of, validators-of}
 use Rattle.records.specs.Stores.{ValidatorAdjusted}
 use Rattle.epoch_processing.specs.Updates.{downward-threshold, upward-threshold, Updated}
 
@@ -140,7 +140,7 @@ unfolding books-of process-effective-balance-updates
 updating-end S s ids old new i e h ds ps cs = record {
   books =
       rw (h .validators)
-      (rw (map-first-all (updated S) i (rows (s .validators) (validator-at ids old)) (rw length-rows e)));
+      (rw (map-first-all (updated S) i (validators-of s ids old) (rw length-rows e)));
   beyond = record {
     identities = refl;
     validators = h .past;

@@ -6,7 +6,6 @@ use native.Mathlib.Omega.{arith}
 use borrow.Author.Tests.{leb-true}
 use Rattle.lists.specs.Base.{total}
 use Rattle.lists.specs.Laws.{by-test}
-use Rattle.tables.specs.Rows.{rows}
 use Rattle.tables.specs.Tests.{every-row}
 use Rattle.tables.specs.Totals.{total-bound}
 use Rattle.rules.specs.Types.{BOUND, Settings, PendingPartialWithdrawal}
@@ -14,9 +13,9 @@ use Rattle.rules.specs.Helpers.{active-effective-balance}
 use Rattle.rules.specs.Acceptance.{effective-within}
 use Rattle.rule_laws.specs.Accepted.{SoundSettings, SoundBooks}
 use Rattle.primitives.specs.declared.Scalars.{Scalars}
-use Rattle.records.specs.Layout.{effective-balance-at, validator-at, partial-at}
+use Rattle.records.specs.Layout.{effective-balance-at, validator-at}
 use Rattle.records.specs.Layout.{identities-fit, validators-fit, partials-fit}
-use Rattle.records.specs.Books.{Tables, books-of}
+use Rattle.records.specs.Books.{Tables, books-of, partials-of, validators-of}
 use Rattle.records.specs.Reading.{EnoughRoom, validators-count, partials-count}
 
 -- the validators stand in their table, and their effective balances add up
@@ -34,7 +33,7 @@ pub record Accounts (s : Scalars) : Type 0 where
 -- the partial withdrawals stand in their table, and their amounts add up
 pub record Partials (s : Scalars) (ps : List ℕ) : Type 0 where
   pub fit : s .partials ≤ partials-fit ps
-  pub amounts : total (λ (p : PendingPartialWithdrawal). p .amount) (rows (s .partials) (partial-at ps)) ≤ BOUND
+  pub amounts : total (λ (p : PendingPartialWithdrawal). p .amount) (partials-of s ps) ≤ BOUND
 
 -- ---- from accepted settings and books
 
@@ -77,7 +76,7 @@ module _ (S : Settings) (s : Scalars) (t : Tables) (σ : SoundSettings S) (ρ : 
 
 -- the active effective balances add up to at most 2^60
 pub active-small : {s : Scalars} {vs : List ℕ} → Registry s vs → (epoch : ℕ) (ids : List ℕ)
-    → total (active-effective-balance epoch) (rows (s .validators) (validator-at ids vs)) ≤ 2 ^ 60
+    → total (active-effective-balance epoch) (validators-of s ids vs) ≤ 2 ^ 60
 active-small {s} {vs} k epoch ids =
     omega (
       arith,

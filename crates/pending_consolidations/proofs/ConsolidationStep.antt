@@ -12,7 +12,7 @@ use Rattle.lists.specs.Laws.{both, every-drop, total-adjust}
 use Rattle.tables.specs.Rows.{rows, length-rows, getD-rows, drop-rows-at, drop-rows-end}
 use Rattle.tables.specs.Totals.{total-at-most}
 use Rattle.tables.specs.Tests.{every-row}
-use Rattle.rules.specs.Types.{BOUND, Settings, Validator, Books}
+use Rattle.rules.specs.Types.{BOUND, Settings, Validator, PendingConsolidation, Books}
 use Rattle.rules.specs.Update.{with-pending-consolidations}
 use Rattle.rules.specs.Helpers.{at, count, no-validator, increased, decreased, get-active-balance}
 use Rattle.rules.specs.Helpers.{switch-to-compounding-validator}
@@ -28,10 +28,11 @@ use Rattle.records.specs.Layout.{validator-at, consolidation-at}
 use Rattle.records.specs.Layout.{slashed-at, withdrawable-epoch-at, balance-at, deposits-fit}
 use Rattle.records.specs.Plain.{plain-consolidation}
 use Rattle.records.specs.Books.{Tables, tables, Stepped, Beyond, AtMost, books-of, beyond-none, beyond-then}
+use Rattle.records.specs.Books.{consolidations-of}
 use Rattle.records.specs.Reading.{validator-read, validators-count, deposits-count, epoch-read}
 use Rattle.records.specs.Stores.{ValidatorAdjusted}
 use Rattle.records.specs.Queues.{ConsolidationsDrained}
-use Rattle.pending_consolidations.specs.Consolidations.{waiting, Consolidated}
+use Rattle.pending_consolidations.specs.Consolidations.{Consolidated}
 use Rattle.pending_consolidations.specs.Laws.{consolidations-dropped, consolidations-stopped, consolidations-more}
 use Rattle.pending_consolidations.specs.Laws.{entry-fits, stepped-then}
 use Rattle.pending_consolidations.specs.Ready.{ConsolidationsReady}
@@ -131,8 +132,8 @@ consolidated S c s r t u w f g =
 
 -- i entries are processed: the books were s₀ and t₀, and are s and t but for the queue
 pub record Consolidating (S : Settings) (s₀ : Scalars) (t₀ : Tables) (s : Scalars) (t : Tables) (i : ℕ) : Type 0 where
-  pub left : process-consolidations S (drop i (waiting s₀ t₀)) (books-of s t)
-      ≡ process-consolidations S (waiting s₀ t₀) (books-of s₀ t₀)
+  pub left : process-consolidations S (drop i (consolidations-of s₀ (t₀ .consolidations))) (books-of s t)
+      ≡ process-consolidations S (consolidations-of s₀ (t₀ .consolidations)) (books-of s₀ t₀)
   pub reached : i ≤ s₀ .consolidations
   pub counts : s ≡ with-deposits s₀ (s .deposits)
   pub beyond : Beyond s t t₀
@@ -158,14 +159,18 @@ abbrev queue-length : Books → ℕ
 queue-length b = length (b .pending-balance-deposits)
 
 step-read : (S : Settings) (s : Scalars) (t : Tables)
-    → process-consolidations S (waiting s t) (books-of s t) ≡ process-pending-consolidations S (books-of s t)
+    → process-consolidations S (consolidations-of s (t .consolidations)) (books-of s t)
+    ≡ process-pending-consolidations S (books-of s t)
 unfolding process-pending-consolidations books-of
 step-read S s t = refl
 
 module _ {S : Settings} {s₀ s : Scalars} {t₀ t : Tables} {i : ℕ} (h : Consolidating S s₀ t₀ s t i) where
+  abbrev entries : List PendingConsolidation
+  entries = consolidations-of s₀ (t₀ .consolidations)
+
   -- the loop ends or stops, and the entries from i on wait
-  finished : process-consolidations S (drop i (waiting s₀ t₀)) (books-of s t)
-      ≡ with-pending-consolidations (drop i (waiting s₀ t₀)) (books-of s t)
+  finished : process-consolidations S (drop i entries) (books-of s t)
+      ≡ with-pending-consolidations (drop i entries) (books-of s t)
       → Consolidated S s₀ t₀ t s i
   finished e = record {
     loop = sym e ∙ h .left ∙ step-read S s₀ t₀;
@@ -188,7 +193,7 @@ module _ {S : Settings} {s₀ s : Scalars} {t₀ t : Tables} {i : ℕ} (h : Cons
   -- at the entry c that the code has read
   module _ (ready : ConsolidationsReady S s₀ t₀) (more : i < s₀ .consolidations) (c : declared.PendingConsolidation)
       (e : plain-consolidation c ≡ consolidation-at (t₀ .consolidations) i) where
-    here : drop i (waiting s₀ t₀) ≡ plain-consolidation c ∷ drop (i + 1) (waiting s₀ t₀)
+    here : drop i entries ≡ plain-consolidation c ∷ drop (i + 1) entries
     here = rw e (drop-rows-at (s₀ .consolidations) (consolidation-at (t₀ .consolidations)) i more)
 
     entry-in : consolidation-in (s₀ .validators) (plain-consolidation c) ≡ true
@@ -258,12 +263,12 @@ module _ {S : Settings} {s₀ s : Scalars} {t₀ t : Tables} {i : ℕ} (h : Cons
             (omega (arith, epoch-read s t, epoch-same, withdrawable-read, due))
 
         waiting-in : every (consolidation-in (count (books-of s t)))
-            (plain-consolidation c ∷ drop (i + 1) (waiting s₀ t₀)) ≡ true
+            (plain-consolidation c ∷ drop (i + 1) entries) ≡ true
         waiting-in =
-            let l = plain-consolidation c ∷ drop (i + 1) (waiting s₀ t₀) in
+            let l = plain-consolidation c ∷ drop (i + 1) entries in
             ap (λ n. every (consolidation-in n) l) (validators-count s t ∙ validators-same)
             ∙ ap (every (consolidation-in (s₀ .validators))) (sym here)
-            ∙ every-drop (consolidation-in (s₀ .validators)) i (waiting s₀ t₀) (ready .known)
+            ∙ every-drop (consolidation-in (s₀ .validators)) i entries (ready .known)
 
         -- there is room for what the entry queues
         pub entry-room : (ps cs : List ℕ)
@@ -280,7 +285,7 @@ module _ {S : Settings} {s₀ s : Scalars} {t₀ t : Tables} {i : ℕ} (h : Cons
               arith,
               ap length same,
               deposits-count s t,
-              entry-fits S (plain-consolidation c) (drop (i + 1) (waiting s₀ t₀)) b live-read due-read waiting-in,
+              entry-fits S (plain-consolidation c) (drop (i + 1) entries) b live-read due-read waiting-in,
               ap (λ l. queue-length (process-consolidations S l b)) here,
               ap queue-length (h .left ∙ step-read S s₀ t₀),
               ready .room,
@@ -295,7 +300,7 @@ module _ {S : Settings} {s₀ s : Scalars} {t₀ t : Tables} {i : ℕ} (h : Cons
             → Consolidating S s₀ t₀ r u (i + 1)
         consolidating-more r u n step counts l₁ l₂ l₃ =
             let b = books-of s t in
-            let cs = drop (i + 1) (waiting s₀ t₀) in
+            let cs = drop (i + 1) entries in
             let c₀ = plain-consolidation c in
             let entry = both _ (every (consolidation-in (count b)) cs) waiting-in .0 in
             let grown : AtMost s r = rw counts (record {
@@ -328,7 +333,7 @@ module _ {S : Settings} {s₀ s : Scalars} {t₀ t : Tables} {i : ℕ} (h : Cons
 drained-books : (s r : Scalars) (t u : Tables) (next left : ℕ) (cs : List ℕ) → next + left ≡ s .consolidations
     → ConsolidationsDrained next left (t .consolidations) cs
     → books-of (with-consolidations r left) (tables (u .identities) (u .validators) (u .deposits) (u .partials) cs)
-    ≡ with-pending-consolidations (drop next (waiting s t)) (books-of r u)
+    ≡ with-pending-consolidations (drop next (consolidations-of s (t .consolidations))) (books-of r u)
 unfolding books-of
 drained-books s r t u next left cs rest gone = rw (gone .records, rest)
 

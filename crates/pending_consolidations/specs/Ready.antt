@@ -13,21 +13,20 @@ use Rattle.rule_laws.specs.Accepted.{SoundBooks}
 use Rattle.primitives.specs.declared.Scalars.{Scalars}
 use Rattle.records.specs.Layout.{validator-at}
 use Rattle.records.specs.Layout.{identities-fit, validators-fit, deposits-fit, consolidations-fit}
-use Rattle.records.specs.Books.{Tables, books-of}
+use Rattle.records.specs.Books.{Tables, books-of, consolidations-of}
 use Rattle.records.specs.Reading.{EnoughRoom, validators-count, consolidations-count}
-use Rattle.pending_consolidations.specs.Consolidations.{waiting}
 
 pub record ConsolidationsReady (S : Settings) (s : Scalars) (t : Tables) : Type 0 where
   pub identities : s .validators ≤ identities-fit (t .identities)
   pub validators : s .validators ≤ validators-fit (t .validators)
   pub consolidations : s .consolidations ≤ consolidations-fit (t .consolidations)
-  pub known : every (consolidation-in (s .validators)) (waiting s t) ≡ true
+  pub known : every (consolidation-in (s .validators)) (consolidations-of s (t .consolidations)) ≡ true
   pub held-small : held (books-of s t) ≤ BOUND
   pub room : length (process-pending-consolidations S (books-of s t) .pending-balance-deposits)
       ≤ deposits-fit (t .deposits)
 
 module _ (S : Settings) (s : Scalars) (t : Tables) (k : SoundBooks S (books-of s t)) where
-  consolidations-known : every (consolidation-in (s .validators)) (waiting s t) ≡ true
+  consolidations-known : every (consolidation-in (s .validators)) (consolidations-of s (t .consolidations)) ≡ true
   unfolding books-of
   consolidations-known =
       rw (length-rows (s .validators) (validator-at (t .identities) (t .validators))) at (k .consolidations-in)

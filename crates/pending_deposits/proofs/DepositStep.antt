@@ -24,7 +24,7 @@ use Rattle.primitives.specs.Scalars.{with-deposit-balance-to-consume}
 use Rattle.records.specs.declared.queues.PendingBalanceDeposit as declared
 use Rattle.records.specs.Layout.{validator-at, deposit-at, balance-at, validators-past}
 use Rattle.records.specs.Plain.{plain-deposit}
-use Rattle.records.specs.Books.{Tables, tables, Stepped, books-of}
+use Rattle.records.specs.Books.{Tables, tables, Stepped, books-of, deposits-of}
 use Rattle.records.specs.Stores.{ValidatorAdjusted}
 use Rattle.records.specs.Queues.{DepositsDrained}
 use Rattle.waiting_deposits.specs.Blocks.{Affordable, take-rows}
@@ -182,11 +182,11 @@ module _ (S : Settings) (s : Scalars) (t : Tables) (allowance available amount n
   abbrev tables-after : Tables
   tables-after = tables (t .identities) vs ds (t .partials) (t .consolidations)
 
-  queue : rows left (deposit-at ds) ≡ drop next (rows (s .deposits) (deposit-at (t .deposits)))
+  queue : rows left (deposit-at ds) ≡ drop next (deposits-of s (t .deposits))
   queue = rw (← rest) (drained .records)
 
   stepped : (carry : ℕ)
-      → (if empty (drop next (rows (s .deposits) (deposit-at (t .deposits)))) then 0 else available - amount) ≡ carry
+      → (if empty (drop next (deposits-of s (t .deposits))) then 0 else available - amount) ≡ carry
       → Stepped (process-pending-balance-deposits S) s t tables-after (with-deposit-balance-to-consume s carry left)
   unfolding books-of process-pending-balance-deposits
   stepped carry e = record {

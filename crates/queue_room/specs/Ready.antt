@@ -5,7 +5,6 @@ use mathlib.Core.List.{List}
 use Prim.Native.Nat.{ℕ, _+_, _^_, _≤_}
 use native.Mathlib.Omega.{arith}
 use Rattle.lists.specs.Base.{total, every}
-use Rattle.tables.specs.Rows.{rows}
 use Rattle.rules.specs.Types as rule
 use Rattle.rules.specs.Types.{BOUND}
 use Rattle.rules.specs.Helpers.{count, get-activation-exit-churn-limit}
@@ -14,20 +13,9 @@ use Rattle.rule_laws.specs.Accepted.{SoundSettings, SoundBooks}
 use Rattle.primitives.specs.declared.Settings.{Settings}
 use Rattle.primitives.specs.declared.Scalars.{Scalars}
 use Rattle.primitives.specs.Settings.{settings-of}
-use Rattle.records.specs.Layout.{validator-at, deposit-at, consolidation-at}
 use Rattle.records.specs.Layout.{identities-fit, validators-fit, deposits-fit, consolidations-fit}
-use Rattle.records.specs.Books.{Tables, books-of}
+use Rattle.records.specs.Books.{Tables, books-of, validators-of, deposits-of, consolidations-of}
 use Rattle.records.specs.Reading.{EnoughRoom, validators-count, deposits-count, consolidations-count}
-
--- the records of three tables
-abbrev pub validators-of : Scalars → (identities validators : List ℕ) → List rule.Validator
-validators-of s ids vs = rows (s .validators) (validator-at ids vs)
-
-abbrev pub deposits-of : Scalars → List ℕ → List rule.PendingBalanceDeposit
-deposits-of s ds = rows (s .deposits) (deposit-at ds)
-
-abbrev pub consolidations-of : Scalars → List ℕ → List rule.PendingConsolidation
-consolidations-of s cs = rows (s .consolidations) (consolidation-at cs)
 
 -- ---- what is required
 

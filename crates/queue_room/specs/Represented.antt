@@ -4,15 +4,15 @@ use mathlib.Core.Path.{_≡_, refl, ap, _∙_}
 use Prim.Native.Nat.{ℕ, _+_, _≤_, _<_}
 use mathlib.Core.List.{List}
 use lib.ListN.{length, drop}
-use Rattle.tables.specs.Rows.{rows, length-rows}
+use Rattle.tables.specs.Rows.{length-rows}
 use Rattle.rules.specs.Types.{Settings, Validator, PendingBalanceDeposit, PendingConsolidation, Books}
 use Rattle.rules.specs.Helpers.{at, get-activation-exit-churn-limit}
 use Rattle.rules.specs.EpochProcessing.{Deposited, process-deposits, process-pending-balance-deposits, consolidate}
 use Rattle.rules.specs.Counting.{affordable}
 use Rattle.rule_laws.specs.Switch.{consolidate-count}
 use Rattle.primitives.specs.declared.Scalars.{Scalars}
-use Rattle.records.specs.Layout.{validator-at, deposit-at, slashed-at, withdrawable-epoch-at}
-use Rattle.records.specs.Books.{Tables, books-of}
+use Rattle.records.specs.Layout.{validator-at, slashed-at, withdrawable-epoch-at}
+use Rattle.records.specs.Books.{Tables, books-of, validators-of, deposits-of}
 use Rattle.records.specs.Reading.{validators-count, validator-read}
 use Rattle.rule_laws.specs.Deposits.{process-deposits-form, credit-length}
 use Rattle.queue_room.specs.Laws.{deposits-keep, consolidate-keeps, consolidate-epoch}
@@ -50,8 +50,8 @@ represented-consolidate S {s} {ws} {w} {b} c h source target k = record {
 -- what the deposit loop leaves of the tables
 abbrev pub deposited : Scalars → Tables → ℕ → Deposited
 deposited s t available =
-    process-deposits available 0 (rows (s .deposits) (deposit-at (t .deposits)))
-    (rows (s .validators) (validator-at (t .identities) (t .validators)))
+    process-deposits available 0 (deposits-of s (t .deposits))
+    (validators-of s (t .identities) (t .validators))
 
 -- w holds the switchable balances after the deposit loop over ds, which credits the first k
 pub record DepositsProcessed (available n : ℕ) (ds : List PendingBalanceDeposit) (vs : List Validator) (w : List ℕ)
@@ -63,7 +63,7 @@ pub record DepositsProcessed (available n : ℕ) (ds : List PendingBalanceDeposi
 -- the books of the tables
 module _ (s : Scalars) (t : Tables) where
   pub represented-books : {w : List ℕ}
-      → Switchable (s .validators) (rows (s .validators) (validator-at (t .identities) (t .validators))) w
+      → Switchable (s .validators) (validators-of s (t .identities) (t .validators)) w
       → Represented s (t .validators) w (books-of s t)
   unfolding books-of
   represented-books h = record {
@@ -81,8 +81,8 @@ module _ (s : Scalars) (t : Tables) where
       → Represented s (t .validators) w (process-pending-balance-deposits S (books-of s t))
   unfolding books-of process-pending-balance-deposits
   represented-deposits S available {w} e h =
-      let vs = rows (s .validators) (validator-at (t .identities) (t .validators)) in
-      let ds = rows (s .deposits) (deposit-at (t .deposits)) in
+      let vs = validators-of s (t .identities) (t .validators) in
+      let ds = deposits-of s (t .deposits) in
       let a = books-of s t .deposit-balance-to-consume + get-activation-exit-churn-limit S (books-of s t) in
       record {
         epoch = refl;

@@ -21,11 +21,10 @@ use Rattle.rule_laws.specs.Switch.{switched-books, switch-form}
 use Rattle.rule_laws.specs.Deposits.{credited-now, deposit-step-form}
 use Rattle.primitives.specs.declared.Scalars.{Scalars}
 use Rattle.records.specs.Layout.{deposit-at}
-use Rattle.records.specs.Books.{Tables, books-of}
+use Rattle.records.specs.Books.{Tables, books-of, deposits-of, consolidations-of}
 use Rattle.records.specs.Reading.{deposits-count, consolidations-count}
 use Rattle.queue_room.specs.Balances.{switchable-balance, excess-entry-length}
 use Rattle.queue_room.specs.Represented.{deposited}
-use Rattle.queue_room.specs.Ready.{deposits-of, consolidations-of}
 
 -- the length of the deposit queue
 abbrev pub queued : Books → ℕ

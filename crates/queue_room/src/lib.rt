@@ -18,13 +18,12 @@ ghost use Rattle.rules.specs.EpochProcessing.{process-pending-consolidations, t
 ghost use Rattle.rules.specs.Counting.{excess-entries};
 ghost use Rattle.primitives.specs.Settings.{settings-of};
 ghost use Rattle.records.specs.Layout.{withdrawal-credentials-at, identities-fit, validators-fit};
-ghost use Rattle.records.specs.Books.{tables, books-of};
+ghost use Rattle.records.specs.Books.{tables, books-of, validators-of, deposits-of, consolidations-of};
 ghost use Rattle.compounding.specs.Laws.{excess-entry-count};
 ghost use Rattle.queue_room.specs.Balances.{Switchable, switchable-amount};
 ghost use Rattle.queue_room.specs.Balances.{credited-balances, consolidated-balances};
 ghost use Rattle.queue_room.specs.Represented.{Represented, DepositsProcessed};
 ghost use Rattle.queue_room.specs.Room.{queued, available-amount};
-ghost use Rattle.queue_room.specs.Ready.{validators-of, deposits-of, consolidations-of};
 ghost use Rattle.queue_room.specs.Ready.{RegistryReady, ConsolidationsReady, QueueReady, DepositsReady};
 ghost use Rattle.queue_room.specs.Ready.{AllowanceReady};
 

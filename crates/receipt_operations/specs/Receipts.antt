@@ -9,7 +9,7 @@ use lib.Dec.{leb, ltb, eqb}
 use borrow.Author.Tests.{lt-ltb, le-ltb}
 use Rattle.lists.specs.Base.{if_then_else_}
 use Rattle.lists.specs.Laws.{by-test, if-true, both}
-use Rattle.tables.specs.Rows.{rows, length-rows}
+use Rattle.tables.specs.Rows.{length-rows}
 use Rattle.rules.specs.Types.{FAR, BOUND, Settings, Validator, Books}
 use Rattle.rules.specs.Helpers.{at, count, position, queue-deposit, has-eth1-withdrawal-credential}
 use Rattle.rules.specs.Helpers.{is-compounding-withdrawal-credential, switch-to-compounding-validator}
@@ -26,7 +26,7 @@ use Rattle.primitives.specs.Scalars as scalars
 use Rattle.records.specs.Layout.{validator-at, identities-fit, validators-fit, deposits-fit}
 use Rattle.records.specs.Stores.{ValidatorPushed}
 use Rattle.records.specs.Queues.{DepositPushed}
-use Rattle.records.specs.Books.{Tables, tables, books-of, Stepped, AtMost, beyond-then}
+use Rattle.records.specs.Books.{Tables, tables, books-of, Stepped, AtMost, beyond-then, validators-of}
 use Rattle.records.specs.Reading.{validators-count, deposits-count, validator-read}
 use Rattle.acceptance.specs.Handed.{Facts}
 use Rattle.acceptance.specs.Held.{held-form}
@@ -256,7 +256,7 @@ pub added-stepped : (s : Scalars) (public-key withdrawal-credentials : List ℕ)
     (tables new-ids new-vs new-ds ps cs) r
 unfolding add-validator-to-registry books-of
 added-stepped s public-key withdrawal-credentials amount ids vs ds new-ids new-vs new-ds made v d e ps cs =
-    let counted : length (rows (s .validators) (validator-at ids vs)) ≡ s .validators =
+    let counted : length (validators-of s ids vs) ≡ s .validators =
     length-rows (s .validators) (validator-at ids vs) in
     rw e (record {
       books = rw counted (rw (v .validators, d .records, made));

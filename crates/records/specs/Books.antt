@@ -32,6 +32,19 @@ tables ids vs ds ps cs = record {
   consolidations = cs;
 }
 
+-- the records of each table
+abbrev pub validators-of : Scalars → (identities validators : List ℕ) → List rule.Validator
+validators-of s ids vs = rows (s .validators) (validator-at ids vs)
+
+abbrev pub deposits-of : Scalars → List ℕ → List rule.PendingBalanceDeposit
+deposits-of s ds = rows (s .deposits) (deposit-at ds)
+
+abbrev pub partials-of : Scalars → List ℕ → List rule.PendingPartialWithdrawal
+partials-of s ps = rows (s .partials) (partial-at ps)
+
+abbrev pub consolidations-of : Scalars → List ℕ → List rule.PendingConsolidation
+consolidations-of s cs = rows (s .consolidations) (consolidation-at cs)
+
 unfoldable pub books-of : Scalars → Tables → rule.Books
 books-of s t = record {
   epoch = s .epoch .0;
@@ -43,10 +56,10 @@ books-of s t = record {
   earliest-exit-epoch = s .«earliest_exit_epoch» .0;
   consolidation-balance-to-consume = s .«consolidation_balance_to_consume» .0;
   earliest-consolidation-epoch = s .«earliest_consolidation_epoch» .0;
-  validators = rows (s .validators) (validator-at (t .identities) (t .validators));
-  pending-balance-deposits = rows (s .deposits) (deposit-at (t .deposits));
-  pending-partial-withdrawals = rows (s .partials) (partial-at (t .partials));
-  pending-consolidations = rows (s .consolidations) (consolidation-at (t .consolidations));
+  validators = validators-of s (t .identities) (t .validators);
+  pending-balance-deposits = deposits-of s (t .deposits);
+  pending-partial-withdrawals = partials-of s (t .partials);
+  pending-consolidations = consolidations-of s (t .consolidations);
 }
 
 -- how many records fit into each buffer; a validator needs room in two

@@ -16,7 +16,7 @@ use Rattle.records.specs.Layout.{column}
 use Rattle.records.specs.Layout.{validator-at, deposit-at, partial-at, consolidation-at, word-at}
 use Rattle.records.specs.Layout.{key-column, credentials-column, identities-fit, validators-fit}
 use Rattle.records.specs.Layout.{identities-past, validators-past}
-use Rattle.records.specs.Books.{Tables, tables, books-of, Beyond, Called}
+use Rattle.records.specs.Books.{Tables, tables, books-of, Beyond, Called, validators-of}
 
 -- the scalars that books were read from
 scalars-in : rule.Books → Scalars
@@ -209,7 +209,7 @@ tables-fixed r t u w z f g e = same-tables ids vs ds ps cs
     vs : u .validators ≡ w .validators
     vs =
         validators-fixed (r .validators) (u .validators) (w .validators) (z .validators) (w .identities)
-        (ap (λ x. rows (r .validators) (validator-at x (u .validators))) (sym ids) ∙ ap (λ b. b .validators) e)
+        (ap (λ x. validators-of r x (u .validators)) (sym ids) ∙ ap (λ b. b .validators) e)
         (f .validators ∙ sym (g .validators))
 
     ds : u .deposits ≡ w .deposits

@@ -29,7 +29,7 @@ use Rattle.primitives.specs.Scalars as scalars
 use Rattle.records.specs.Layout.{validator-at, partial-at, validators-past}
 use Rattle.records.specs.Stores.{ValidatorAdjusted}
 use Rattle.records.specs.Queues.{PartialsDrained}
-use Rattle.records.specs.Books.{Tables, tables, books-of, Stepped}
+use Rattle.records.specs.Books.{Tables, tables, books-of, Stepped, partials-of, validators-of}
 use Rattle.records.specs.Reading.{validators-count}
 use Rattle.expected_withdrawals.specs.declared.Withdrawal.{Withdrawal}
 use Rattle.expected_withdrawals.specs.declared.ExpectedWithdrawals.{ExpectedWithdrawals}
@@ -365,7 +365,7 @@ module _ (settings : Settings) (s : Scalars) (ids vs ds ps cs : List ℕ) (ws : 
         (c : (t : Tables) → cursor ≡ next-validator-index (settings-of settings) (books-of s t) ws) where
       queue : rows (s .partials - gone) (partial-at qs)
           ≡ drop (length (expected-partial-withdrawals (settings-of settings) (books-of s (tables ids vs ds ps cs))))
-          (rows (s .partials) (partial-at ps))
+          (partials-of s ps)
       queue =
           let z : gone + (s .partials - gone) ≡ s .partials = omega arith in
           drained .records
@@ -381,7 +381,7 @@ module _ (settings : Settings) (s : Scalars) (ids vs ds ps cs : List ℕ) (ws : 
           (λ x y.
           with-next-withdrawal x y
           (with-pending-partial-withdrawals (rows (s .partials - gone) (partial-at qs))
-          (with-validators (rows (s .validators) (validator-at ids us)) b)))
+          (with-validators (validators-of s ids us) b)))
           (i t) (c t)
           ∙ ap₂
           (λ x y.

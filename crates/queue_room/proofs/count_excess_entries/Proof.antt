@@ -8,9 +8,9 @@ use Rattle.rules.specs.Types as rule
 use Rattle.primitives.specs.Settings.{settings-of}
 use Rattle.records.specs.Layout.{consolidation-at}
 use Rattle.records.specs.Plain.{plain-consolidation}
+use Rattle.records.specs.Books.{consolidations-of}
 use Rattle.queue_room.specs.Represented.{Represented}
 use Rattle.queue_room.specs.Room.{at-most-one}
-use Rattle.queue_room.specs.Ready.{consolidations-of}
 use Rattle.queue_room.proofs.Counting.{Counting, counting-none, counting-skip, counting-stop, counting-more}
 use Rattle.queue_room.proofs.Counting.{counting-end, named}
 use Rattle.queue_room.proofs.count_excess_entries.Statement.{statement}

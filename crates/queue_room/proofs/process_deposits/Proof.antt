@@ -7,7 +7,7 @@ use lib.ListN.{length, drop}
 use Rattle.tables.specs.Rows.{length-rows, drop-rows-at, drop-rows-end}
 use Rattle.records.specs.Layout.{deposit-at}
 use Rattle.records.specs.Plain.{plain-deposit}
-use Rattle.queue_room.specs.Ready.{validators-of, deposits-of}
+use Rattle.records.specs.Books.{validators-of, deposits-of}
 use Rattle.queue_room.proofs.Crediting.{Crediting, crediting-none, crediting-small, crediting-fits}
 use Rattle.queue_room.proofs.Crediting.{crediting-stop, crediting-more, crediting-end, owner}
 use Rattle.queue_room.proofs.process_deposits.Statement.{statement}

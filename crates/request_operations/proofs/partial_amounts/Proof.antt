@@ -8,7 +8,7 @@ use Rattle.tables.specs.Rows.{rows}
 use Rattle.tables.specs.Totals.{total-step, total-end}
 use Rattle.rules.specs.Types.{PendingPartialWithdrawal}
 use Rattle.records.specs.Layout.{partial-at}
-use Rattle.records.specs.Books.{books-of}
+use Rattle.records.specs.Books.{books-of, partials-of}
 use Rattle.request_operations.proofs.partial_amounts.Statement.{statement}
 use Rattle.request_operations.proofs.partial_amounts.Tie as tie
 
@@ -33,7 +33,7 @@ partial-at-requires c κs = omega arith
 turn : (c : tie.After-partial-at Inv-loop μ-loop)
     → let a = c .before .before .before .before .args in
     let l = c .before .before .loop in
-    let T = rows (a .scalars .partials) (partial-at (a .partials .now)) in
+    let T = partials-of (a .scalars) (a .partials .now) in
     total amount-of (drop (l .k) T) ≡ c .partial-at .result .amount .0 + total amount-of (drop (l .k + 1) T)
 turn c =
     let a = c .before .before .before .before .args in

@@ -4,12 +4,10 @@ use Prim.Native.Nat.{ℕ, _+_, _<_}
 use native.Mathlib.Omega.{arith}
 use borrow.Author.Needs.{needs}
 use borrow.Author.Tests.{not-true, not-false}
-use Rattle.tables.specs.Rows.{rows}
 use Rattle.rules.specs.BlockProcessing.{request-partial-withdrawal}
 use Rattle.primitives.specs.Settings.{settings-of}
-use Rattle.records.specs.Layout.{partial-at}
 use Rattle.records.specs.Plain.{plain-validator}
-use Rattle.records.specs.Books.{tables, books-of}
+use Rattle.records.specs.Books.{tables, books-of, partials-of}
 use Rattle.helpers.specs.Lookups.{owed-at-most}
 use Rattle.call_answers.specs.Answers.{judged-same, judged-as}
 use Rattle.request_operations.specs.Requests.{to-withdraw, excess-above, queue-partial-withdrawal}
@@ -25,7 +23,7 @@ unfolding books-of
 has-excess-requires c κs =
     let start = c .before .before .before .before in
     let a = start .args in
-    let most = owed-at-most (a .i .0) (rows (a .scalars .partials) (partial-at (a .partials .now))) in (
+    let most = owed-at-most (a .i .0) (partials-of (a .scalars) (a .partials .now)) in (
       start .pre .0,
       omega (
         arith,

@@ -9,7 +9,7 @@ use Rattle.tables.specs.Rows.{rows}
 use Rattle.tables.specs.Totals.{total-step, total-end}
 use Rattle.rules.specs.Helpers.{active-effective-balance, get-total-active-balance}
 use Rattle.records.specs.Layout.{validator-at}
-use Rattle.records.specs.Books.{books-of}
+use Rattle.records.specs.Books.{books-of, validators-of}
 use Rattle.helpers.specs.Ready.{active-small}
 use Rattle.helpers.proofs.churn.get_total_active_balance.Statement.{statement}
 use Rattle.helpers.proofs.churn.get_total_active_balance.Tie as tie
@@ -36,7 +36,7 @@ turn : (c : tie.After-active-effective-balance-at Inv-loop μ-loop) (ids : List 
     → let a = c .before .before .before .before .before .args in
     let l = c .before .before .loop in
     let w = active-effective-balance (a .scalars .epoch .0) in
-    let T = rows (a .scalars .validators) (validator-at ids (a .validators .now)) in
+    let T = validators-of (a .scalars) ids (a .validators .now) in
     total w (drop (l .i) T) ≡ c .active-effective-balance-at .result .0 + total w (drop (l .i + 1) T)
 turn c ids =
     let a = c .before .before .before .before .before .args in

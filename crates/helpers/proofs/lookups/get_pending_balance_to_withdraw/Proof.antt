@@ -8,7 +8,7 @@ use Rattle.tables.specs.Rows.{rows}
 use Rattle.tables.specs.Totals.{total-step, total-end}
 use Rattle.rules.specs.Helpers.{owed-to}
 use Rattle.records.specs.Layout.{partial-at}
-use Rattle.records.specs.Books.{books-of}
+use Rattle.records.specs.Books.{books-of, partials-of}
 use Rattle.helpers.specs.Lookups.{owed-at-most}
 use Rattle.helpers.proofs.lookups.get_pending_balance_to_withdraw.Statement.{statement}
 use Rattle.helpers.proofs.lookups.get_pending_balance_to_withdraw.Tie as tie
@@ -35,7 +35,7 @@ owed-to-requires c κs = search needs
 turn : (c : tie.After-owed-to Inv-loop μ-loop)
     → let a = c .before .before .before .before .before .args in
     let l = c .before .before .before .loop in
-    let T = rows (a .scalars .partials) (partial-at (a .partials .now)) in
+    let T = partials-of (a .scalars) (a .partials .now) in
     total (owed-to (a .i .0)) (drop (l .k) T)
     ≡ c .owed-to .result .0 + total (owed-to (a .i .0)) (drop (l .k + 1) T)
 turn c =
@@ -51,7 +51,7 @@ turn c =
 add-sum : tie.Need-add-sum Inv-loop μ-loop
 add-sum c =
     let a = c .before .before .before .before .before .before .args in
-    let ps = rows (a .scalars .partials) (partial-at (a .partials .now)) in
+    let ps = partials-of (a .scalars) (a .partials .now) in
     omega (arith, turn (c .before), owed-at-most (a .i .0) ps)
 
 add-k : tie.Need-add-k Inv-loop μ-loop
