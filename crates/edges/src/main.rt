@@ -83,8 +83,8 @@ fn assign(amount: u64, churn: u64) {
         Gwei(churn),
         Gwei(amount),
     );
-    number(a.number as u64);
-    let given = a.assignment;
+    number(a.number() as u64);
+    let given = a.assigned();
     number(given.epoch.0);
     number(given.left.0);
     end();

@@ -1,6 +1,7 @@
 -- What the bare assignment gives, by its cases.
-use mathlib.Core.Path.{_≡_}
+use mathlib.Core.Path.{_≡_, refl, ap}
 use Prim.Native.Nat.{ℕ, _≤_, _<_}
+use native.Mathlib.Omega.{arith}
 use lib.Dec.{eqb}
 use borrow.Author.Tests.{eq-eqb, ne-eqb, lt-ltb, le-ltb}
 use Rattle.lists.specs.Base.{if_then_else_}
@@ -9,6 +10,8 @@ use Rattle.rules.specs.Helpers as rule
 use Rattle.rules.specs.Helpers.{assign-epoch}
 use Rattle.rules.specs.Calls.{assignment-answer}
 use Rattle.helpers.specs.declared.assignment.Assignment.{Assignment}
+use Rattle.helpers.specs.declared.assignment.AssignmentAnswer.{AssignmentAnswer}
+use Rattle.helpers.specs.declared.assignment.AssignmentAnswer.the-variants.{Assigned, ChurnZero, EpochOverBound}
 
 -- the declared struct as the rules' record
 abbrev pub plain-assignment : Assignment → rule.Assignment
@@ -16,6 +19,32 @@ plain-assignment a = record { left = a .left .0; epoch = a .epoch .0 }
 
 abbrev pub no-assignment : rule.Assignment
 no-assignment = record { left = 0; epoch = 0 }
+
+-- the number of each case
+abbrev pub answer-number : AssignmentAnswer → ℕ
+answer-number (Assigned a) = 0
+answer-number ChurnZero = 50
+answer-number EpochOverBound = 42
+
+-- and its assignment
+abbrev pub answer-assignment : AssignmentAnswer → rule.Assignment
+answer-assignment (Assigned a) = plain-assignment a
+answer-assignment ChurnZero = no-assignment
+answer-assignment EpochOverBound = no-assignment
+
+-- number and assignment leave no second answer
+pub answer-fixed : (r s : AssignmentAnswer) → answer-number r ≡ answer-number s
+    → answer-assignment r ≡ answer-assignment s → r ≡ s
+answer-fixed (Assigned a) (Assigned b) n e =
+    ap (λ (x : rule.Assignment). Assigned (record { left = record { 0 = x .left }; epoch = record { 0 = x .epoch } })) e
+answer-fixed (Assigned a) ChurnZero n e = let z : ⊥ = omega (arith, n) in absurd z
+answer-fixed (Assigned a) EpochOverBound n e = let z : ⊥ = omega (arith, n) in absurd z
+answer-fixed ChurnZero (Assigned b) n e = let z : ⊥ = omega (arith, n) in absurd z
+answer-fixed ChurnZero ChurnZero n e = refl
+answer-fixed ChurnZero EpochOverBound n e = let z : ⊥ = omega (arith, n) in absurd z
+answer-fixed EpochOverBound (Assigned b) n e = let z : ⊥ = omega (arith, n) in absurd z
+answer-fixed EpochOverBound ChurnZero n e = let z : ⊥ = omega (arith, n) in absurd z
+answer-fixed EpochOverBound EpochOverBound n e = refl
 
 -- a refusal gives no assignment
 unfoldable pub assignment-result : (left earliest-epoch activation-exit-epoch churn amount : ℕ) → rule.Assignment

@@ -7,7 +7,7 @@ use primitives::answers::DONE;
 use primitives::answers::RESULT_EPOCH_OVER_BOUND;
 ghost use mathlib.Core.Path.{_≡_};
 ghost use Rattle.rules.specs.Calls.{assignment-answer};
-ghost use Rattle.helpers.specs.Assigned.{plain-assignment, no-assignment, assignment-result};
+ghost use Rattle.helpers.specs.Assigned.{plain-assignment, answer-number, answer-assignment, assignment-result};
 
 // What is left of the churn of the epoch assigned, and that epoch.
 pub struct Assignment {
@@ -15,20 +15,36 @@ pub struct Assignment {
     pub epoch: Epoch,
 }
 
-// The bare assignment's answer; a refusal has 0 for both numbers of the assignment.
-pub struct AssignmentAnswer {
-    pub number: u8,
-    pub assignment: Assignment,
+// The bare assignment's answer, by its cause.
+pub enum AssignmentAnswer {
+    Assigned(Assignment),
+    ChurnZero,
+    EpochOverBound,
 }
 
-fn refused(number: u8) -> AssignmentAnswer
-    ensures { λ r. ⌜ (r .number ≡ number) × (plain-assignment (r .assignment) ≡ no-assignment) ⌝ }
-{
-    let assignment = Assignment {
-        left: Gwei(0),
-        epoch: Epoch(0),
-    };
-    AssignmentAnswer { number, assignment }
+impl AssignmentAnswer {
+    pub fn number(self) -> u8
+        ensures { λ r. ⌜ r ≡ answer-number self ⌝ }
+    {
+        match self {
+            AssignmentAnswer::Assigned(_) => DONE,
+            AssignmentAnswer::ChurnZero => CHURN_ZERO,
+            AssignmentAnswer::EpochOverBound => RESULT_EPOCH_OVER_BOUND,
+        }
+    }
+
+    // The two numbers; a refusal has 0 for both.
+    pub fn assigned(self) -> Assignment
+        ensures { λ r. ⌜ plain-assignment r ≡ answer-assignment self ⌝ }
+    {
+        match self {
+            AssignmentAnswer::Assigned(a) => a,
+            _ => Assignment {
+                left: Gwei(0),
+                epoch: Epoch(0),
+            },
+        }
+    }
 }
 
 // The bare assignment, for any five numbers.
@@ -40,29 +56,25 @@ pub fn epoch_assignment(
     amount: Gwei,
 ) -> AssignmentAnswer
     ensures { λ r. ⌜
-        r .number ≡ assignment-answer (left .0) (earliest .0) («activation_exit» .0) (churn .0) (amount .0)
+        answer-number r ≡ assignment-answer (left .0) (earliest .0) («activation_exit» .0) (churn .0) (amount .0)
         ⌝ }
     ensures { λ r. ⌜
-        plain-assignment (r .assignment)
+        answer-assignment r
         ≡ assignment-result (left .0) (earliest .0) («activation_exit» .0) (churn .0) (amount .0)
         ⌝ }
 {
     if churn.0 == 0 {
-        return refused(CHURN_ZERO);
+        return AssignmentAnswer::ChurnZero;
     }
     let p = churn_account::assignment_parts(left, earliest, activation_exit, churn, amount);
     if BOUND < p.start.0 {
-        return refused(RESULT_EPOCH_OVER_BOUND);
+        return AssignmentAnswer::EpochOverBound;
     }
     if BOUND - p.start.0 < p.additional {
-        return refused(RESULT_EPOCH_OVER_BOUND);
+        return AssignmentAnswer::EpochOverBound;
     }
-    let assignment = Assignment {
+    AssignmentAnswer::Assigned(Assignment {
         left: Gwei(p.left.0),
         epoch: Epoch(p.start.0 + p.additional),
-    };
-    AssignmentAnswer {
-        number: DONE,
-        assignment,
-    }
+    })
 }

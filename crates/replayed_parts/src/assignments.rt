@@ -42,9 +42,9 @@ fn assign(rows: &[u8], k: usize, out: &mut [u8])
         Gwei(number(rows, k + 6)),
         Gwei(number(rows, k + 8)),
     );
-    let given = a.assignment;
+    let given = a.assigned();
     copy(rows, k, 5, out);
-    put_answer(out, k + 10, a.number, given.left, given.epoch);
+    put_answer(out, k + 10, a.number(), given.left, given.epoch);
 }
 
 fn assign_all(rows: &[u8], n: usize, out: &mut [u8])

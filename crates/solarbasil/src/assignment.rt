@@ -1,4 +1,5 @@
 // The bare epoch assignment, for other languages.
+use helpers::assignment::AssignmentAnswer;
 use primitives::Epoch;
 use primitives::Gwei;
 use primitives::answers;
@@ -28,18 +29,17 @@ pub extern "C" fn solarbasil_epoch_assignment(
         ≡ given r (assign-epoch left earliest «activation_exit» churn amount .epoch) (now (epoch .entry))
         ⌝ }
 {
-    let assigned = helpers::assignment::epoch_assignment(
+    let answer = helpers::assignment::epoch_assignment(
         Gwei(left),
         Epoch(earliest),
         Epoch(activation_exit),
         Gwei(churn),
         Gwei(amount),
     );
-    if assigned.number != answers::DONE {
-        return assigned.number;
-    }
-    let account = assigned.assignment;
-    *left_after = account.left.0;
-    *epoch = account.epoch.0;
-    assigned.number
+    let AssignmentAnswer::Assigned(assigned) = answer else {
+        return answer.number();
+    };
+    *left_after = assigned.left.0;
+    *epoch = assigned.epoch.0;
+    answers::DONE
 }
