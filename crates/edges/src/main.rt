@@ -1,5 +1,6 @@
 // Edges run through the public calls on the mainnet row, but for one with another minimum churn. One line an edge: the
 // answer, then what the edge is about. The expected output stands in the file stdout.
+use electra::total::Total;
 use helpers::assignment;
 use libc::STDOUT_FILENO;
 use primitives::BOUND;
@@ -188,9 +189,9 @@ fn turn(epoch: u64) {
     number(vs[12]);
     let s = r.scalars;
     number(s.epoch.0);
-    let t = electra::total::held(settings, s, &ids, &vs, &ds, &ps, &cs);
-    let total = t.total;
-    number(total.0);
+    if let Total::Held(sum) = electra::total::held(settings, s, &ids, &vs, &ds, &ps, &cs) {
+        number(sum.0);
+    }
     end();
 }
 

@@ -2,16 +2,33 @@
 use primitives::Gwei;
 use primitives::Scalars;
 use primitives::Settings;
+use primitives::answers;
 ghost use mathlib.Core.Path.{_≡_};
 ghost use Rattle.rules.specs.Calls.{handed-refusal};
 ghost use Rattle.primitives.specs.Settings.{settings-of};
 ghost use Rattle.records.specs.Books.{tables, books-of, room-of};
 ghost use Rattle.acceptance.specs.Total.{total-given};
+ghost use Rattle.electra.specs.Total.{total-number, total-sum};
 
-// The answer, and the sum; a refusal has 0 for the sum.
-pub struct Total {
-    pub number: u8,
-    pub total: Gwei,
+// The sum, or why there is none.
+pub enum Total {
+    Held(Gwei),
+    UnsoundSettings,
+    UnsoundBooks,
+    ShortBuffer,
+}
+
+impl Total {
+    pub fn number(self) -> u8
+        ensures { λ r. ⌜ r ≡ total-number self ⌝ }
+    {
+        match self {
+            Total::Held(_) => answers::DONE,
+            Total::UnsoundSettings => answers::UNSOUND_SETTINGS,
+            Total::UnsoundBooks => answers::UNSOUND_BOOKS,
+            Total::ShortBuffer => answers::SHORT_BUFFER,
+        }
+    }
 }
 
 // Balances plus waiting deposits.
@@ -25,7 +42,7 @@ pub fn held(
     consolidations: &[u64],
 ) -> Total
     ensures { λ r. ⌜
-        r .number
+        total-number r
         ≡ handed-refusal (settings-of settings)
         (books-of scalars
         (tables (now (identities .entry)) (now (validators .entry)) (now (deposits .entry))
@@ -35,7 +52,7 @@ pub fn held(
         (now (partials .entry)) (now (consolidations .entry))))
         ⌝ }
     ensures { λ r. ⌜
-        r .total .0
+        total-sum r
         ≡ total-given (settings-of settings)
         (books-of scalars
         (tables (now (identities .entry)) (now (validators .entry)) (now (deposits .entry))
@@ -54,9 +71,16 @@ pub fn held(
         partials,
         consolidations,
     );
-    let total = handed.held;
-    Total {
-        number: handed.number,
-        total,
+    let number = handed.number;
+    let sum = handed.held;
+    if number == answers::UNSOUND_SETTINGS {
+        return Total::UnsoundSettings;
     }
+    if number == answers::SHORT_BUFFER {
+        return Total::ShortBuffer;
+    }
+    if number == answers::UNSOUND_BOOKS {
+        return Total::UnsoundBooks;
+    }
+    Total::Held(sum)
 }

@@ -172,7 +172,7 @@ pub fn afterwards(
         partials,
         consolidations,
     );
-    if lent & (handed.number != answers::DONE) {
+    if lent & (handed.number() != answers::DONE) {
         return unchanged::check_unchanged(
             replay,
             settings,

@@ -1,8 +1,8 @@
 // What books hold, balances plus waiting deposits, whether they are sound or not.
+use electra::total::Total;
 use primitives::Scalars;
 use primitives::Settings;
 use primitives::ValidatorIndex;
-use primitives::answers;
 use records::queues::deposit_at;
 use records::queues::deposits_fit;
 use records::registry::balance_at;
@@ -62,8 +62,8 @@ pub fn total(
         partials,
         consolidations,
     );
-    if held.number == answers::DONE {
-        return held.total.0;
+    if let Total::Held(sum) = held {
+        return sum.0;
     }
     plain_total(scalars, validators, deposits)
 }

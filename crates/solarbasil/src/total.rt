@@ -1,4 +1,5 @@
 // The sum that calls conserve, for other languages.
+use electra::total::Total;
 use primitives::answers;
 ghost use mathlib.Core.Path.{_≡_};
 ghost use mathlib.Core.List.{[]};
@@ -38,7 +39,7 @@ pub extern "C" fn solarbasil_total(
         return slices::unfit_answer(chain);
     }
     let before = slices::scalars_from(scalars);
-    let sum = electra::total::held(
+    let answer = electra::total::held(
         chain,
         before,
         identities,
@@ -47,9 +48,9 @@ pub extern "C" fn solarbasil_total(
         partials,
         consolidations,
     );
-    if sum.number != answers::DONE {
-        return sum.number;
-    }
-    *total = sum.total.0;
-    sum.number
+    let Total::Held(sum) = answer else {
+        return answer.number();
+    };
+    *total = sum.0;
+    answers::DONE
 }
