@@ -11,25 +11,32 @@ ghost use Rattle.records.specs.Layout.{identities-fit};
 ghost use Rattle.records.specs.Plain.{plain-partial};
 ghost use Rattle.records.specs.Books.{tables, books-of};
 ghost use Rattle.helpers.specs.Ready.{Partials};
+ghost use Rattle.helpers.specs.Found.{Finds};
 
-// The first validator with this key; the count where there is none.
-pub fn position(scalars: Scalars, identities: &[u8], public_key: [u8; 48]) -> usize
+// Where a key stands in the registry.
+pub enum Found {
+    At(ValidatorIndex),
+    Nowhere,
+}
+
+// The first validator with this key.
+pub fn position(scalars: Scalars, identities: &[u8], public_key: [u8; 48]) -> Found
     requires { ⌜ scalars .validators ≤ identities-fit (now identities) ⌝ }
     ensures { λ r. ⌜
         ((vs ds ps cs : List ℕ)
-        → r ≡ position «public_key»
-        (books-of scalars (tables (now (identities .entry)) vs ds ps cs) .validators))
+        → Finds r (scalars .validators)
+        (position «public_key» (books-of scalars (tables (now (identities .entry)) vs ds ps cs) .validators)))
         ⌝ }
 {
     let n = scalars.validators;
     let mut i: usize = 0;
     while i < n {
         if records::registry::has_public_key(identities, ValidatorIndex(i), public_key) {
-            return i;
+            return Found::At(ValidatorIndex(i));
         }
         i += 1;
     }
-    n
+    Found::Nowhere
 }
 
 fn owed_to(i: ValidatorIndex, p: PendingPartialWithdrawal) -> Gwei

@@ -1,4 +1,5 @@
 // Deposit receipts. A bad signature is no refusal: an unknown key is not added, a known key is not switched.
+use helpers::lookups::Found;
 use primitives::Epoch;
 use primitives::FAR_FUTURE_EPOCH;
 use primitives::Gwei;
@@ -234,9 +235,8 @@ fn apply_deposit(
         (r .number) (r .scalars))
         ⌝ }
 {
-    let index = helpers::lookups::position(scalars, identities, public_key);
-    if index < scalars.validators {
-        let i = ValidatorIndex(index);
+    let found = helpers::lookups::position(scalars, identities, public_key);
+    if let Found::At(i) = found {
         let v = records::registry::validator_at(identities, validators, i);
         let switch = switches(withdrawal_credentials, valid, v);
         return deposit_to_known(

@@ -1,4 +1,5 @@
 // Withdrawal requests of the execution layer. A request that fails a test is set aside: it is done and changes nothing.
+use helpers::lookups::Found;
 use primitives::BOUND;
 use primitives::Epoch;
 use primitives::FAR_FUTURE_EPOCH;
@@ -281,14 +282,13 @@ pub fn process_execution_layer_withdrawal_request(
             scalars,
         };
     }
-    let index = helpers::lookups::position(scalars, identities, public_key);
-    if scalars.validators <= index {
+    let found = helpers::lookups::position(scalars, identities, public_key);
+    let Found::At(i) = found else {
         return Outcome {
             number: answers::DONE,
             scalars,
         };
-    }
-    let i = ValidatorIndex(index);
+    };
     let v = records::registry::validator_at(identities, validators, i);
     if !may_request(settings, scalars.epoch, v, source_address) {
         return Outcome {

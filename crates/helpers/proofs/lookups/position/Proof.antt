@@ -31,9 +31,11 @@ returns : tie.Need-returns Inv-loop μ-loop
 unfolding books-of
 returns c = λ vs ds ps cs.
     let a = c .before .before .before .before .before .args in
-    let l = c .before .before .before .loop in
-    position-found (a .public-key) (a .scalars .validators) (validator-at (a .identities .now) vs) (l .i)
-    (l .inv .1 vs) (omega arith) (sym (c .before .has-public-key .ensures) ∙ c .if1 .taken)
+    let l = c .before .before .before .loop in (
+      position-found (a .public-key) (a .scalars .validators) (validator-at (a .identities .now) vs) (l .i)
+          (l .inv .1 vs) (omega arith) (sym (c .before .has-public-key .ensures) ∙ c .if1 .taken),
+      omega arith,
+    )
 
 add-i : tie.Need-add-i Inv-loop μ-loop
 add-i c = omega arith
