@@ -150,8 +150,8 @@ books-from p =
       pending-consolidations = p .1 .1 .1 .1;
     }
 
--- Any count of 28 bits is read, if the file has as many records; books with more than the settings allow are answered 2,
--- not 60.
+-- Any count of 28 bits is read, if the file has as many records; books with more than the settings allow are answered
+-- 2, not 60.
 abbrev pub list-of : {A : Type 0} → Format A → Format (List A)
 list-of F = counted (2 ^ 28) F
 

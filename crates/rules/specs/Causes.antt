@@ -351,5 +351,6 @@ causes =
 
 pub causes-hold : all causes ≡ true
 unfolding causes payload-of-17 one-of-each churn-64 churn-33 churn-32 first second alone pair partial-waiting
-    switching second-partial one-partial within short exit consolidate receipt consolidations-limit deposits-limit gives opened
+    switching second-partial one-partial within short exit consolidate receipt consolidations-limit deposits-limit
+    gives opened
 causes-hold = refl

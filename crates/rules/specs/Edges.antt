@@ -17,7 +17,8 @@ use Rattle.rules.specs.BlockProcessing.{get-expected-withdrawals}
 use Rattle.rules.specs.Acceptance.{deposit-amounts}
 use Rattle.rules.specs.Calls.{Call, answer, after}
 use Rattle.rules.specs.Calls.{withdrawal-request, consolidation, withdrawals, voluntary-exit, deposit-receipt}
-use Rattle.rules.specs.Examples.{G, mainnet, with-limits, key, address, credentials, validator, with-slashed, since}
+use Rattle.rules.specs.Examples.{G, mainnet, with-limits, key, address, credentials, validator}
+use Rattle.rules.specs.Examples.{with-slashed, since}
 use Rattle.rules.specs.Examples.{deposit, partial, pending, books, call, opened}
 
 -- ---- tests on what a rule gives
@@ -119,7 +120,8 @@ early-source = with-exit 990 1001 (validator 1 1 (32 * G) (32 * G))
 
 -- two sources wait for validator 1; the second is withdrawable
 consolidating : Validator → Books
-consolidating source = books (source ∷ target (40 * G) ∷ withdrawable (32 * G) ∷ []) [] [] (pending 0 1 ∷ pending 2 1 ∷ [])
+consolidating source =
+    books (source ∷ target (40 * G) ∷ withdrawable (32 * G) ∷ []) [] [] (pending 0 1 ∷ pending 2 1 ∷ [])
 
 -- the first is dropped and the second consolidated
 first-dropped : Validator → Books
@@ -177,8 +179,8 @@ marked-edges =
 
 pub marked-edges-hold : all marked-edges ≡ true
 unfolding marked-edges joined validator-numbers books-numbers same-books unchanged assigned effective-becomes
-    deposits-leave one-paid leaves-epochs waiting target withdrawable slashed-source early-source consolidating first-dropped
-    one-partial one-place full-queue request large large-books opened
+    deposits-leave one-paid leaves-epochs waiting target withdrawable slashed-source early-source consolidating
+    first-dropped one-partial one-place full-queue request large large-books opened
 marked-edges-hold = refl
 
 -- ---- edges of our own

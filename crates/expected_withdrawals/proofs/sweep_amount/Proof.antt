@@ -45,7 +45,8 @@ returns-3 c =
     let a = q .before .before .before .before .before .args in
     let S = settings-of (a .settings) in
     let epoch = a .epoch .0 in
-    let fully = sym (c .before .before .before .is-fully-withdrawable-validator .ensures) ∙ c .before .before .if2 .left in
+    let fully =
+    sym (c .before .before .before .is-fully-withdrawable-validator .ensures) ∙ c .before .before .if2 .left in
     let partially =
     sym (c .before .is-partially-withdrawable-validator .ensures) ∙ not-true _ (c .if3 .taken) in
     none-taken S epoch _ fully partially ∙ ap (sweep-amount S epoch) (q .validator-at .ensures)
@@ -72,7 +73,8 @@ returns-4 c =
     let a = w .before .before .before .before .before .args in
     let S = settings-of (a .settings) in
     let epoch = a .epoch .0 in
-    let fully = sym (q .before .before .before .is-fully-withdrawable-validator .ensures) ∙ q .before .before .if2 .left in
+    let fully =
+    sym (q .before .before .before .is-fully-withdrawable-validator .ensures) ∙ q .before .before .if2 .left in
     let partially =
     sym (q .before .is-partially-withdrawable-validator .ensures) ∙ not-not _ (q .if3 .left) in
     ap (λ n. w .validator-at .result .balance .0 - n) (c .before .before .get-validator-max-effective-balance .ensures)
