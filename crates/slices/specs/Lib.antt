@@ -1,4 +1,5 @@
 pub mod Numbers
 pub mod Exported
 pub mod Fixed
+pub mod Front
 pub mod Withdrawals

@@ -1,5 +1,4 @@
 -- Withdrawals as slices: three numbers each (index, validator, amount), and twenty bytes each for their addresses.
-use mathlib.Core.Path.{_≡_, refl, ap, sym}
 use mathlib.Core.List.{List, [], _++_}
 use Prim.Native.Nat.{ℕ, zero, suc, _+_, _*_, _/_, _%_}
 use lib.ListN.{getD, drop}
@@ -53,16 +52,3 @@ with-records old ws = record-numbers ws ++ drop 48 old
 
 abbrev pub with-addresses : List ℕ → List Withdrawal → List ℕ
 with-addresses old ws = address-bytes ws ++ drop 320 old
-
--- ---- the numbers of a withdrawal
-
-pub first-part : (w : Withdrawal) (k : ℕ) → k ≡ 0 → w .index .0 ≡ part w k
-first-part w k e = sym (ap (part w) e)
-
-pub second-part : (w : Withdrawal) (k : ℕ) → k ≡ 1 → w .«validator_index» .0 ≡ part w k
-second-part w k e = sym (ap (part w) e)
-
-pub last-part : (w : Withdrawal) (k : ℕ) → (k ≡ 0 → ⊥) → (k ≡ 1 → ⊥) → w .amount .0 ≡ part w k
-last-part w zero h l = absurd (h refl)
-last-part w (suc zero) h l = absurd (l refl)
-last-part w (suc (suc k)) h l = refl

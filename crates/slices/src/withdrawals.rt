@@ -4,11 +4,12 @@ use primitives::Gwei;
 use primitives::ValidatorIndex;
 use primitives::WithdrawalIndex;
 ghost use mathlib.Core.Path.{_≡_};
-ghost use mathlib.Core.List.{[], _∷_};
-ghost use Prim.Native.Nat.{_<_, _≤_, _/_, _%_};
+ghost use mathlib.Core.List.{List, [], _∷_};
+ghost use Prim.Native.Nat.{ℕ, _+_, _*_, _<_, _≤_, _/_};
 ghost use lib.Dec.{leb};
 ghost use lib.ListN.{length, getD};
 ghost use Rattle.slices.specs.Exported.{fit};
+ghost use Rattle.slices.specs.Front.{Front};
 ghost use Rattle.slices.specs.Withdrawals.{address-at, withdrawal-at, withdrawals-in};
 ghost use Rattle.slices.specs.Withdrawals.{part, with-records, with-addresses};
 
@@ -92,28 +93,43 @@ pub fn expected_fit(scalars: &[u64], records: &[u64], addresses: &[u8]) -> bool
     (crate::SCALARS <= scalars.len()) & (48 <= records.len()) & (320 <= addresses.len())
 }
 
-// Number k of a withdrawal.
-fn number_of(w: Withdrawal, k: usize) -> u64
-    ensures { λ r. ⌜ r ≡ part w k ⌝ }
+// The three numbers of withdrawal i, behind those of the withdrawals before it.
+fn store_record(records: &mut [u64], i: usize, w: Withdrawal)
+    requires { ⌜ 3 * i + 3 ≤ length (now records) ⌝ }
+    ensures { λ r. ⌜
+        ((old : List ℕ) (g : ℕ → ℕ) → Front old g (3 * i) (now (records .entry))
+        → ((k : ℕ) → k < 3 → part w k ≡ g (3 * i + k)) → Front old g (3 * i + 3) (now (records .exit)))
+        ⌝ }
 {
-    if k == 0 {
-        return w.index.0;
+    records[3 * i] = w.index.0;
+    records[3 * i + 1] = w.validator_index.0 as u64;
+    records[3 * i + 2] = w.amount.0;
+}
+
+// The twenty bytes of address i, behind those before it.
+fn store_address(addresses: &mut [u8], i: usize, address: [u8; 20])
+    requires { ⌜ 20 * i + 20 ≤ length (now addresses) ⌝ }
+    ensures { λ r. ⌜
+        ((old : List ℕ) (g : ℕ → ℕ) → Front old g (20 * i) (now (addresses .entry))
+        → ((k : ℕ) → k < 20 → getD address k 0 ≡ g (20 * i + k)) → Front old g (20 * i + 20) (now (addresses .exit)))
+        ⌝ }
+{
+    let mut k = 0;
+    while k < 20 {
+        addresses[20 * i + k] = address[k];
+        k += 1;
     }
-    if k == 1 {
-        return w.validator_index.0 as u64;
-    }
-    w.amount.0
 }
 
 pub fn store_records(records: &mut [u64], list: [Withdrawal; 16])
     requires { ⌜ 48 ≤ length (now records) ⌝ }
     ensures { λ r. ⌜ now (records .exit) ≡ with-records (now (records .entry)) list ⌝ }
 {
-    let mut j = 0;
-    while j < 48 {
-        let w = list[j / 3];
-        records[j] = number_of(w, j % 3);
-        j += 1;
+    let mut i = 0;
+    while i < 16 {
+        let w = list[i];
+        store_record(records, i, w);
+        i += 1;
     }
 }
 
@@ -121,11 +137,11 @@ pub fn store_addresses(addresses: &mut [u8], list: [Withdrawal; 16])
     requires { ⌜ 320 ≤ length (now addresses) ⌝ }
     ensures { λ r. ⌜ now (addresses .exit) ≡ with-addresses (now (addresses .entry)) list ⌝ }
 {
-    let mut j = 0;
-    while j < 320 {
-        let w = list[j / 20];
+    let mut i = 0;
+    while i < 16 {
+        let w = list[i];
         let address = w.address;
-        addresses[j] = address[j % 20];
-        j += 1;
+        store_address(addresses, i, address);
+        i += 1;
     }
 }

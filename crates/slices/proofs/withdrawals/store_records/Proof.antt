@@ -1,17 +1,16 @@
 use mathlib.Core.Path.{_≡_}
-use Prim.Native.Nat.{_-_, _/_, _%_, _≤_}
+use Prim.Native.Nat.{ℕ, _+_, _-_, _*_, _/_, _%_, _≤_, _<_}
 use native.Mathlib.Omega.{arith}
 use Rattle.slices.specs.Withdrawals.{part, record-of}
-use Rattle.slices.proofs.Copy.{Front, front-none, front-more}
+use Rattle.slices.specs.Front.{Front, front-none}
 use Rattle.slices.proofs.withdrawals.store_records.Statement.{statement}
 use Rattle.slices.proofs.withdrawals.store_records.Tie as tie
 
 abbrev Inv-loop : tie.InvT-loop
-Inv-loop records₀ list j₀ records j =
-    (j ≤ 48) × Front records₀ (λ q. part (record-of list (q / 3)) (q % 3)) j records
+Inv-loop records₀ list i₀ records i = (i ≤ 16) × Front records₀ (λ q. part (record-of list (q / 3)) (q % 3)) (3 * i) records
 
 abbrev μ-loop : tie.MeasureT-loop
-μ-loop records₀ list j₀ records j = 48 - j
+μ-loop records₀ list i₀ records i = 16 - i
 
 loop-holds : tie.Need-loop-holds Inv-loop μ-loop
 loop-holds c = (omega arith, front-none)
@@ -22,31 +21,38 @@ mul-w c = omega arith
 array-copy-out-w : tie.Need-array-copy-out-w Inv-loop μ-loop
 array-copy-out-w c = omega arith
 
-number-of-requires : tie.Need-number-of-requires Inv-loop μ-loop
-number-of-requires c κs = omega arith
+store-record-requires : tie.Need-store-record-requires Inv-loop μ-loop
+store-record-requires c κs =
+    let q = c .before .before .before in
+    omega (arith, q .loop .inv .1 .size, q .before .before .pre, c .before .before .loop-test .taken)
 
-mul-records : tie.Need-mul-records Inv-loop μ-loop
-mul-records c = omega arith
-
-slice-write-records : tie.Need-slice-write-records Inv-loop μ-loop
-slice-write-records c = omega (arith, c .before .before .before .loop .inv .1 .size)
-
-add-j : tie.Need-add-j Inv-loop μ-loop
-add-j c = omega arith
+add-i : tie.Need-add-i Inv-loop μ-loop
+add-i c = omega arith
 
 loop-less : tie.Need-loop-less Inv-loop μ-loop
 loop-less c = omega arith
 
 loop-again : tie.Need-loop-again Inv-loop μ-loop
 loop-again c =
-    (omega arith, front-more (omega arith) (c .number-of .ensures) (c .before .before .before .loop .inv .1))
+    let q = c .before .before .before .before .before .before in
+    let list = q .before .before .args .t2 in
+    let i = q .loop .i in
+    let onward : 3 * i + 3 ≡ 3 * (i + 1) = omega arith in
+    let here : (k : ℕ) → k < 3 → part (record-of list i) k ≡ part (record-of list ((3 * i + k) / 3)) ((3 * i + k) % 3) =
+    λ k h.
+    let d : (3 * i + k) / 3 ≡ i = omega arith in
+    let m : (3 * i + k) % 3 ≡ k = omega arith in
+    rw (d, m) in (
+      omega arith,
+      rw onward at (c .before .before .store-record .ensures (q .before .before .args .records .now) _ (q .loop .inv .1) here),
+    )
 
 same-length : tie.Need-same-length Inv-loop μ-loop
 same-length c = c .before .loop .inv .1 .size
 
 returns : tie.Need-returns Inv-loop μ-loop
 returns c =
-    let e : c .before .loop .j ≡ 48 = omega arith in
+    let e : c .before .loop .i ≡ 16 = omega (arith, c .before .loop .inv .0, c .loop-test .left) in
     rw e at (c .before .loop .inv .1 .words)
 
 pub store-records-spec : {M : Type 1} → statement M
@@ -58,10 +64,8 @@ store-records-spec =
     loop-holds
     mul-w
     array-copy-out-w
-    number-of-requires
-    mul-records
-    slice-write-records
-    add-j
+    store-record-requires
+    add-i
     loop-less
     loop-again
     same-length
