@@ -9,15 +9,19 @@ use Rattle.rules.specs.Types as rule
 use Rattle.rules.specs.Helpers.{withdrawal-address}
 use Rattle.rules.specs.BlockProcessing.{is-partial-payable, sweep-amount, partial-withdrawals, sweep-withdrawals}
 use Rattle.expected_withdrawals.specs.declared.ExpectedWithdrawals.{ExpectedWithdrawals}
+use Rattle.expected_withdrawals.specs.declared.Withdrawal.{Withdrawal}
 use Rattle.expected_withdrawals.specs.Expected.{coded-withdrawal}
 
--- one withdrawal more
-abbrev pub pushed : ExpectedWithdrawals → rule.Withdrawal → ExpectedWithdrawals
-pushed e w = record {
-  list = set (e .list) (e .count) (coded-withdrawal w);
+-- one withdrawal more, as the declared struct
+abbrev pub with-withdrawal : ExpectedWithdrawals → Withdrawal → ExpectedWithdrawals
+with-withdrawal e w = record {
+  list = set (e .list) (e .count) w;
   count = e .count + 1;
   partials = e .partials;
 }
+
+abbrev pub pushed : ExpectedWithdrawals → rule.Withdrawal → ExpectedWithdrawals
+pushed e w = with-withdrawal e (coded-withdrawal w)
 
 unfoldable pub pushes : List rule.Withdrawal → ExpectedWithdrawals → ExpectedWithdrawals
 pushes [] e = e

@@ -18,8 +18,8 @@ ghost use Rattle.records.specs.Layout.{validator-at, balance-at, partial-at, id
 ghost use Rattle.records.specs.Plain.{plain-partial};
 ghost use Rattle.records.specs.Books.{books-of, tables};
 ghost use Rattle.tables.specs.Rows.{rows};
-ghost use Rattle.expected_withdrawals.specs.Expected.{no-withdrawals, expected-of};
-ghost use Rattle.expected_withdrawals.specs.Listing.{pushed, withdrawal-of, may-withdraw};
+ghost use Rattle.expected_withdrawals.specs.Expected.{no-withdrawals, coded-withdrawal, expected-of};
+ghost use Rattle.expected_withdrawals.specs.Listing.{withdrawal-of, may-withdraw};
 ghost use Rattle.expected_withdrawals.specs.Listing.{partial-amount, list-partials, list-swept};
 ghost use Rattle.expected_withdrawals.specs.Ready.{SweepReady, Ready};
 
@@ -54,36 +54,31 @@ impl ExpectedWithdrawals {
             partials: 0,
         }
     }
+}
 
-    // One withdrawal more, of validator i; `first` is the index of the first one.
-    fn push(
-        mut self,
-        first: WithdrawalIndex,
-        identities: &[u8],
-        validators: &[u64],
-        i: ValidatorIndex,
-        amount: Gwei,
-    ) -> ExpectedWithdrawals
-        requires { ⌜ (self .count < 16) × (first .0 ≤ 2 ^ 62) ⌝ }
-        requires { ⌜ (i .0 < identities-fit (now identities)) × (i .0 < validators-fit (now validators)) ⌝ }
-        ensures { λ r. ⌜
-            r ≡ pushed self (withdrawal-of (first .0) (self .count) (i .0)
-            (validator-at (now (identities .entry)) (now (validators .entry)) (i .0)) (amount .0))
-            ⌝ }
-    {
-        let v = records::registry::validator_at(identities, validators, i);
-        let address = v.withdrawal_address();
-        let count = self.count;
-        let index = WithdrawalIndex(first.0 + self.count as u64);
-        let w = Withdrawal {
-            index,
-            validator_index: i,
-            address,
-            amount,
-        };
-        self.list[count] = w;
-        self.count = count + 1;
-        self
+// The withdrawal behind `count` others, of validator i; `first` is the index of the first one.
+fn withdrawal_of(
+    first: WithdrawalIndex,
+    count: usize,
+    identities: &[u8],
+    validators: &[u64],
+    i: ValidatorIndex,
+    amount: Gwei,
+) -> Withdrawal
+    requires { ⌜ (count < 16) × (first .0 ≤ 2 ^ 62) ⌝ }
+    requires { ⌜ (i .0 < identities-fit (now identities)) × (i .0 < validators-fit (now validators)) ⌝ }
+    ensures { λ r. ⌜
+        r ≡ coded-withdrawal (withdrawal-of (first .0) count (i .0)
+        (validator-at (now (identities .entry)) (now (validators .entry)) (i .0)) (amount .0))
+        ⌝ }
+{
+    let v = records::registry::validator_at(identities, validators, i);
+    let address = v.withdrawal_address();
+    Withdrawal {
+        index: WithdrawalIndex(first.0 + count as u64),
+        validator_index: i,
+        address,
+        amount,
     }
 }
 
@@ -192,7 +187,10 @@ fn partial_withdrawals(
         let i = p.index;
         if is_partial_payable(settings, validators, i) {
             let amount = partial_amount(settings, validators, p);
-            e = e.push(first, identities, validators, i, amount);
+            let w = withdrawal_of(first, e.count, identities, validators, i, amount);
+            let count = e.count;
+            e.list[count] = w;
+            e.count = count + 1;
         }
         k += 1;
     }
@@ -249,7 +247,17 @@ fn sweep_withdrawals(
             ValidatorIndex(i),
         );
         if 0 < amount.0 {
-            e = e.push(first, identities, validators, ValidatorIndex(i), amount);
+            let w = withdrawal_of(
+                first,
+                e.count,
+                identities,
+                validators,
+                ValidatorIndex(i),
+                amount,
+            );
+            let count = e.count;
+            e.list[count] = w;
+            e.count = count + 1;
         }
         i = index_after(i, n);
         k += 1;

@@ -1,10 +1,11 @@
-use mathlib.Core.Path.{_∙_}
+use mathlib.Core.Path.{ap, _∙_}
 use mathlib.Core.Logic.{⊎-elim}
-use Prim.Native.Nat.{_-_}
+use Prim.Native.Nat.{_-_, _<_}
 use native.Mathlib.Omega.{arith}
 use borrow.Author.Needs.{needs}
 use Rattle.primitives.specs.Settings.{settings-of}
 use Rattle.records.specs.Layout.{validator-at}
+use Rattle.expected_withdrawals.specs.Listing.{with-withdrawal}
 use Rattle.expected_withdrawals.specs.Laws.{validator-listed, validator-passed}
 use Rattle.expected_withdrawals.proofs.Walk.{Sweeping, sweeping-none, swept-all, swept-full, sweeping-more}
 use Rattle.expected_withdrawals.proofs.sweep_withdrawals.Statement.{statement}
@@ -28,36 +29,52 @@ loop-holds c =
 
 returns : tie.Need-returns Inv-loop μ-loop
 returns c =
-    let a = c .before .before .before .before .before .before .before .before .before .args in
+    let a = c .before .before .before .before .before .before .before .before .args in
     swept-full (a .settings) (a .scalars) (a .identities .now) (a .validators .now) (a .listed)
-    (c .before .before .before .loop .inv) (c .if1 .taken)
+    (c .before .before .loop .inv) (c .if1 .taken)
 
 sweep-amount-requires : tie.Need-sweep-amount-requires Inv-loop μ-loop
 sweep-amount-requires c κs =
-    let r = c .before .before .before .before .before .before .before .before .before .pre in
-    let i = c .before .before .before .loop .inv .inside in
+    let r = c .before .before .before .before .before .before .before .before .pre in
+    let i = c .before .before .loop .inv .inside in
     (omega (arith, i, r .identities), omega (arith, i, r .validators))
 
-push-requires : tie.Need-push-requires Inv-loop μ-loop
-push-requires c κs =
-    let r = c .before .before .before .before .before .before .before .before .before .before .before .before .pre in
-    let i = c .before .before .before .before .before .before .loop .inv .inside in (
+withdrawal-of-requires : tie.Need-withdrawal-of-requires Inv-loop μ-loop
+withdrawal-of-requires c κs =
+    let r = c .before .before .before .before .before .before .before .before .before .before .before .pre in
+    let i = c .before .before .before .before .before .loop .inv .inside in (
       (omega (arith, c .before .before .before .if1 .left, r .payload), r .index),
       (omega (arith, i, r .identities), omega (arith, i, r .validators)),
     )
 
+-- there is room for it
+room : (c : tie.After-withdrawal-of Inv-loop μ-loop)
+    → c .before .before .before .before .before .before .loop .e .count < 16
+room c =
+    let r = c .before .before .before .before .before .before .before .before .before .before .before .before .pre in
+    omega (arith, c .before .before .before .before .if1 .left, r .payload)
+
+mul-w : tie.Need-mul-w Inv-loop μ-loop
+mul-w c = omega (arith, room c)
+
+element-set-from-w : tie.Need-element-set-from-w Inv-loop μ-loop
+element-set-from-w c = room c
+
+add-e : tie.Need-add-e Inv-loop μ-loop
+add-e c = omega (arith, room c)
+
 index-after-requires : tie.Need-index-after-requires Inv-loop μ-loop
-index-after-requires c κs = c .before .before .before .before .before .before .loop .inv .inside
+index-after-requires c κs = c .before .before .before .before .before .loop .inv .inside
 
 add-k : tie.Need-add-k Inv-loop μ-loop
-add-k c = omega (arith, c .before .before .before .before .before .before .loop-test .taken)
+add-k c = omega (arith, c .before .before .before .before .before .loop-test .taken)
 
 loop-less : tie.Need-loop-less Inv-loop μ-loop
-loop-less c = omega (arith, c .before .before .before .before .before .before .loop-test .taken)
+loop-less c = omega (arith, c .before .before .before .before .before .loop-test .taken)
 
 loop-again : tie.Need-loop-again Inv-loop μ-loop
 loop-again c =
-    let q = c .before .before .before .before .before .before .before in
+    let q = c .before .before .before .before .before .before in
     let a = q .before .before .before .before .before .before .args in
     let S = settings-of (a .settings) in
     let i = q .loop .i in
@@ -66,10 +83,10 @@ loop-again c =
     let first = a .scalars .«next_withdrawal_index» .0 in
     let amount = c .before .before .before .sweep-amount .ensures in
     let more = sweeping-more (a .settings) (a .scalars) (a .identities .now) (a .validators .now) (a .listed)
-    (q .loop .inv) (c .before .before .before .before .before .before .loop-test .taken)
+    (q .loop .inv) (c .before .before .before .before .before .loop-test .taken)
     (c .before .before .before .before .if1 .left) (c .index-after .ensures) in
     ⊎-elim
-    (λ w. more (validator-listed S v epoch first i (q .loop .e) amount (w .0 .taken) (w .2 ∙ w .1 .ensures)))
+    (λ w. more (validator-listed S v epoch first i (q .loop .e) amount (w .0 .taken) (w .2 ∙ ap (with-withdrawal (q .loop .e)) (w .1 .ensures))))
     (λ w. more (w .1 ∙ validator-passed S v epoch first i (q .loop .e) amount (w .0 .left)))
     (c .before .if2 .came)
 
@@ -89,7 +106,10 @@ sweep-withdrawals-spec =
     loop-holds
     returns
     sweep-amount-requires
-    push-requires
+    withdrawal-of-requires
+    mul-w
+    element-set-from-w
+    add-e
     index-after-requires
     add-k
     loop-less
