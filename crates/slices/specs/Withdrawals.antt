@@ -39,13 +39,21 @@ part w zero = w .index .0
 part w (suc zero) = w .«validator_index» .0
 part w (suc (suc k)) = w .amount .0
 
+-- number q of all
+abbrev pub record-number : List Withdrawal → ℕ → ℕ
+record-number ws q = part (record-of ws (q / 3)) (q % 3)
+
+-- byte q of all addresses
+abbrev pub address-byte : List Withdrawal → ℕ → ℕ
+address-byte ws q = getD (record-of ws (q / 20) .address) (q % 20) 0
+
 -- the forty-eight numbers of sixteen withdrawals
 abbrev pub record-numbers : List Withdrawal → List ℕ
-record-numbers ws = rows 48 (λ q. part (record-of ws (q / 3)) (q % 3))
+record-numbers ws = rows 48 (record-number ws)
 
 -- the 320 bytes of their addresses
 abbrev pub address-bytes : List Withdrawal → List ℕ
-address-bytes ws = rows 320 (λ q. getD (record-of ws (q / 20) .address) (q % 20) 0)
+address-bytes ws = rows 320 (address-byte ws)
 
 abbrev pub with-records : List ℕ → List Withdrawal → List ℕ
 with-records old ws = record-numbers ws ++ drop 48 old

@@ -134,7 +134,8 @@ loop-again c =
     ⊎-elim
     (λ w. more
     (partial-listed S v first p (q .before .before .before .loop .e) (sym payable ∙ w .0 .taken)
-    (w .1 .ensures (a .identities .now)) (w .3 ∙ ap (with-withdrawal (q .before .before .before .loop .e)) (w .2 .ensures))))
+    (w .1 .ensures (a .identities .now))
+    (w .3 ∙ ap (with-withdrawal (q .before .before .before .loop .e)) (w .2 .ensures))))
     (λ w. more (w .1 ∙ partial-passed S v first p (q .before .before .before .loop .e)
     (sym payable ∙ w .0 .left)))
     (c .if3 .came)

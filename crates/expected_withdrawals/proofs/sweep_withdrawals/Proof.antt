@@ -86,7 +86,9 @@ loop-again c =
     (q .loop .inv) (c .before .before .before .before .before .loop-test .taken)
     (c .before .before .before .before .if1 .left) (c .index-after .ensures) in
     ⊎-elim
-    (λ w. more (validator-listed S v epoch first i (q .loop .e) amount (w .0 .taken) (w .2 ∙ ap (with-withdrawal (q .loop .e)) (w .1 .ensures))))
+    (λ w. more
+    (validator-listed S v epoch first i (q .loop .e) amount (w .0 .taken)
+    (w .2 ∙ ap (with-withdrawal (q .loop .e)) (w .1 .ensures))))
     (λ w. more (w .1 ∙ validator-passed S v epoch first i (q .loop .e) amount (w .0 .left)))
     (c .before .if2 .came)
 

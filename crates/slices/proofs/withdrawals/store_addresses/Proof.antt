@@ -2,13 +2,13 @@ use mathlib.Core.Path.{_≡_}
 use Prim.Native.Nat.{ℕ, _+_, _-_, _*_, _/_, _%_, _≤_, _<_}
 use native.Mathlib.Omega.{arith}
 use lib.ListN.{getD}
-use Rattle.slices.specs.Withdrawals.{record-of}
+use Rattle.slices.specs.Withdrawals.{record-of, address-byte}
 use Rattle.slices.specs.Front.{Front, front-none}
 use Rattle.slices.proofs.withdrawals.store_addresses.Statement.{statement}
 use Rattle.slices.proofs.withdrawals.store_addresses.Tie as tie
 
 abbrev Inv-loop : tie.InvT-loop
-Inv-loop addresses₀ list i₀ addresses i = (i ≤ 16) × Front addresses₀ (λ q. getD (record-of list (q / 20) .address) (q % 20) 0) (20 * i) addresses
+Inv-loop addresses₀ list i₀ addresses i = (i ≤ 16) × Front addresses₀ (address-byte list) (20 * i) addresses
 
 abbrev μ-loop : tie.MeasureT-loop
 μ-loop addresses₀ list i₀ addresses i = 16 - i
@@ -39,13 +39,15 @@ loop-again c =
     let list = q .before .before .args .t2 in
     let i = q .loop .i in
     let onward : 20 * i + 20 ≡ 20 * (i + 1) = omega arith in
-    let here : (k : ℕ) → k < 20 → getD (record-of list i .address) k 0 ≡ getD (record-of list ((20 * i + k) / 20) .address) ((20 * i + k) % 20) 0 =
+    let here : (k : ℕ) → k < 20 → getD (record-of list i .address) k 0 ≡ address-byte list (20 * i + k) =
     λ k h.
     let d : (20 * i + k) / 20 ≡ i = omega arith in
     let m : (20 * i + k) % 20 ≡ k = omega arith in
     rw (d, m) in (
       omega arith,
-      rw onward at (c .before .before .store-address .ensures (q .before .before .args .addresses .now) _ (q .loop .inv .1) here),
+      rw onward at
+          (c .before .before .store-address .ensures (q .before .before .args .addresses .now) (address-byte list)
+          (q .loop .inv .1) here),
     )
 
 same-length : tie.Need-same-length Inv-loop μ-loop

@@ -1,13 +1,13 @@
 use mathlib.Core.Path.{_≡_}
 use Prim.Native.Nat.{ℕ, _+_, _-_, _*_, _/_, _%_, _≤_, _<_}
 use native.Mathlib.Omega.{arith}
-use Rattle.slices.specs.Withdrawals.{part, record-of}
+use Rattle.slices.specs.Withdrawals.{part, record-of, record-number}
 use Rattle.slices.specs.Front.{Front, front-none}
 use Rattle.slices.proofs.withdrawals.store_records.Statement.{statement}
 use Rattle.slices.proofs.withdrawals.store_records.Tie as tie
 
 abbrev Inv-loop : tie.InvT-loop
-Inv-loop records₀ list i₀ records i = (i ≤ 16) × Front records₀ (λ q. part (record-of list (q / 3)) (q % 3)) (3 * i) records
+Inv-loop records₀ list i₀ records i = (i ≤ 16) × Front records₀ (record-number list) (3 * i) records
 
 abbrev μ-loop : tie.MeasureT-loop
 μ-loop records₀ list i₀ records i = 16 - i
@@ -38,13 +38,15 @@ loop-again c =
     let list = q .before .before .args .t2 in
     let i = q .loop .i in
     let onward : 3 * i + 3 ≡ 3 * (i + 1) = omega arith in
-    let here : (k : ℕ) → k < 3 → part (record-of list i) k ≡ part (record-of list ((3 * i + k) / 3)) ((3 * i + k) % 3) =
+    let here : (k : ℕ) → k < 3 → part (record-of list i) k ≡ record-number list (3 * i + k) =
     λ k h.
     let d : (3 * i + k) / 3 ≡ i = omega arith in
     let m : (3 * i + k) % 3 ≡ k = omega arith in
     rw (d, m) in (
       omega arith,
-      rw onward at (c .before .before .store-record .ensures (q .before .before .args .records .now) _ (q .loop .inv .1) here),
+      rw onward at
+          (c .before .before .store-record .ensures (q .before .before .args .records .now) (record-number list)
+          (q .loop .inv .1) here),
     )
 
 same-length : tie.Need-same-length Inv-loop μ-loop
