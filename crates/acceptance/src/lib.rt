@@ -1,4 +1,7 @@
 // The tests of what is handed in: settings, lent buffers and books; and the sum that accepted books hold.
+
+#![tactic(auto)]
+
 pub mod passes; // one pass over each table
 pub mod quick; // one pass over the bits of all validators
 pub mod record; // the tests of one record
@@ -146,7 +149,7 @@ pub fn books_held(
 
 // The number that what is handed in is refused with, 1, 3, 2 in this order, and 0 for the sum; or 0, and the sum that
 // the books hold.
-#[derive(Drop)]
+#[derive(Clone, Copy)]
 pub struct Acceptance {
     pub number: u8,
     pub held: Gwei,

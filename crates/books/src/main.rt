@@ -1,5 +1,8 @@
 // Carries out the calls of calls.w on the books of opening.w, both in the working directory, and prints a line for each
 // call. All that lies between the bytes read and the bytes written is `books_output::books_output`.
+
+#![tactic(auto)]
+
 ghost use Rattle.std.specs.Prelude.{◌≡◌, length};
 ghost use Rattle.io.specs.Counts.{IsPrefixLen};
 

@@ -1,5 +1,8 @@
 // The reader of a books file: whether lent bytes are one. Everything is judged on the words where they stand; nothing
 // is copied.
+
+#![tactic(auto)]
+
 ghost use Rattle.std.specs.Prelude.{◌≡◌, ◌+◌, ◌*◌, ◌%◌, ◌≤◌, ◌^◌, drop};
 ghost use Rattle.file_format.specs.Words.{words};
 ghost use Rattle.file_format.specs.Fields.{many};

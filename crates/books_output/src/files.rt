@@ -12,7 +12,7 @@ const MOST_BYTES: usize = 65536;
 
 // The number of the refusal, or 0 with the settings and the scalars of the closing books, and how many calls were
 // carried out.
-#[derive(Drop)]
+#[derive(Clone, Copy)]
 pub struct Closing {
     pub number: u8,
     pub settings: Settings,

@@ -1,4 +1,7 @@
 // The whole of what the program `books` does between the bytes that it reads and the bytes that it writes.
+
+#![tactic(auto)]
+
 mod buffers; // room for 256 records of each kind, and for the results
 pub mod closing; // the same of the program `close`
 mod files; // both files judged, and the calls carried out

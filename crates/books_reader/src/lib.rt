@@ -1,5 +1,8 @@
 // The reader of a books file: from lent bytes into lent tables. The whole file is judged before the first store, so
 // that a refusal leaves every buffer as it was.
+
+#![tactic(auto)]
+
 ghost use Rattle.std.specs.Prelude.{◌≡◌};
 ghost use Rattle.file_format.specs.Answers.{read_answer};
 ghost use Rattle.records.specs.Books.{tables, room_of};
@@ -14,7 +17,7 @@ use table_stores::store_books;
 
 // What the reader answers: the number of its cause, and the settings and scalars of the books that it opened; blank
 // ones where it refused.
-#[derive(Drop)]
+#[derive(Clone, Copy)]
 pub struct Opened {
     pub number: u8,
     pub settings: Settings,

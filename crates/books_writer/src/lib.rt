@@ -1,4 +1,7 @@
 // Books written as a file into a lent buffer.
+
+#![tactic(auto)]
+
 pub mod counted; // the four counted lists
 pub mod front; // the head, the settings and the scalars
 

@@ -1,5 +1,8 @@
 // The answer of a call: by what was handed in, by its own tests, by the size of what it would leave. Every call decides
 // all that can refuse it before its first store, and stores only when it is done.
+
+#![tactic(auto)]
+
 ghost use Rattle.std.specs.Prelude.{◌≡◌};
 ghost use Rattle.result_sizes.specs.Size.{size_number};
 

@@ -1,5 +1,8 @@
 // The reader of a calls file: whether lent bytes are one, and its calls one after another, from the words where they
 // stand. Nothing is copied but what a call holds.
+
+#![tactic(auto)]
+
 ghost use Rattle.std.specs.Prelude.{◌≡◌, true, map, ◌+◌, ◌*◌, ◌≤◌, ◌<◌, ◌^◌, length, get_or, drop};
 ghost use Rattle.rules.specs.Calls.{reward, penalty, deposit_receipt, voluntary_exit, withdrawal_request};
 ghost use Rattle.rules.specs.Calls.{consolidation, withdrawals};
@@ -193,13 +196,13 @@ pub fn calls_file_ok(file: &[u8]) -> bool
 // ---- what the call at word k holds, where it was judged good and has the code
 
 // Reward and penalty.
-#[derive(Drop)]
+#[derive(Clone, Copy)]
 pub struct Amount {
     pub i: ValidatorIndex,
     pub amount: Gwei,
 }
 
-#[derive(Drop)]
+#[derive(Clone, Copy)]
 pub struct Receipt {
     pub public_key: [u8; 48],
     pub withdrawal_credentials: [u8; 32],
@@ -208,21 +211,21 @@ pub struct Receipt {
     pub valid: bool,
 }
 
-#[derive(Drop)]
+#[derive(Clone, Copy)]
 pub struct Exit {
     pub i: ValidatorIndex,
     pub epoch: Epoch,
     pub valid: bool,
 }
 
-#[derive(Drop)]
+#[derive(Clone, Copy)]
 pub struct Request {
     pub source_address: [u8; 20],
     pub public_key: [u8; 48],
     pub amount: Gwei,
 }
 
-#[derive(Drop)]
+#[derive(Clone, Copy)]
 pub struct Consolidation {
     pub source_index: ValidatorIndex,
     pub target_index: ValidatorIndex,
@@ -231,7 +234,7 @@ pub struct Consolidation {
 }
 
 // Of the sixteen records the first `count` are withdrawals and the others are blank.
-#[derive(Drop)]
+#[derive(Clone, Copy)]
 pub struct Withdrawals {
     pub list: [Withdrawal; 16],
     pub count: usize,

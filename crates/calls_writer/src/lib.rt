@@ -1,5 +1,8 @@
 // A calls file made in a lent buffer. The buffer always begins with a complete file, of the length that the last call
 // returned; each call is added at its end. 60, then 61, before the first store.
+
+#![tactic(auto)]
+
 ghost use Rattle.std.specs.Prelude.{◌≡◌, [], ◌∷◌, ◌+◌, ◌-◌, ◌*◌, ◌/◌, ◌≤◌, length};
 ghost use Rattle.rules.specs.Calls.{reward, penalty, deposit_receipt, voluntary_exit, withdrawal_request};
 ghost use Rattle.rules.specs.Calls.{consolidation, turn, withdrawals};

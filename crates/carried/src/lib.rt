@@ -1,1 +1,3 @@
 // Demand 3 of the public calls, from what each of them promises: specs/ alone, no code.
+
+#![tactic(auto)]

@@ -2,6 +2,9 @@
 // assignment gives an amount its epoch, and what is left of that epoch's churn; all of it stays within 64 bits for any
 // numbers. The account is lent and altered in `compute_epoch_and_update_churn`; `account_after` lends it, and whoever
 // calls that holds accounts by value.
+
+#![tactic(auto)]
+
 ghost use Rattle.std.specs.Prelude.{◌≡◌, ◌+◌, ◌-◌, ◌*◌, ◌<◌, ◌^◌};
 ghost use Rattle.rules.specs.Helpers.{assign_epoch};
 ghost use Rattle.churn_account.specs.Account.{plain_account, assigned_to};
@@ -10,21 +13,21 @@ ghost use Rattle.churn_account.specs.Parts.{start_account, additional_epochs};
 use primitives::{Epoch, Gwei};
 
 // What is left of the churn of the earliest epoch, and that epoch.
-#[derive(Drop)]
+#[derive(Clone, Copy)]
 pub struct ChurnAccount {
     pub balance_to_consume: Gwei,
     pub earliest_epoch: Epoch,
 }
 
 // Whole epochs, and what is left of the churn of the last.
-#[derive(Drop)]
+#[derive(Clone, Copy)]
 pub struct Additional {
     pub epochs: u64,
     pub left: Gwei,
 }
 
 // An assignment whose epoch, the sum of the start and the additional epochs, need not fit 64 bits.
-#[derive(Drop)]
+#[derive(Clone, Copy)]
 pub struct AssignmentParts {
     pub left: Gwei,
     pub start: Epoch,

@@ -1,5 +1,8 @@
 // Carries out the calls of calls.w on the books of opening.w, and writes the closing books to closing.w, all in the
 // working directory. It refuses what `books` refuses, in the same words, and then writes no file.
+
+#![tactic(auto)]
+
 ghost use Rattle.std.specs.Prelude.{◌≡◌, length};
 ghost use Rattle.io.specs.Counts.{IsPrefixLen};
 

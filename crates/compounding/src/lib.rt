@@ -1,4 +1,7 @@
 // A validator's switch to compounding credentials (electra/helpers.rs).
+
+#![tactic(auto)]
+
 ghost use Rattle.std.specs.Prelude.{◌≡◌, List, ℕ, ◌+◌, ◌<◌, ◌≤◌, length};
 ghost use Rattle.rules.specs.Helpers.{queue_excess_active_balance, switch_to_compounding_validator};
 ghost use Rattle.rules.specs.Counting.{excess_entry};

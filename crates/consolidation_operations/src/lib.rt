@@ -1,4 +1,7 @@
 // Consolidations: a validator is exited and its balance queued for another.
+
+#![tactic(auto)]
+
 ghost use Rattle.std.specs.Prelude.{◌≡◌, true, List, ℕ, ◌<◌, ◌≤◌};
 ghost use Rattle.rules.specs.Helpers.{get_consolidation_churn_limit};
 ghost use Rattle.rules.specs.BlockProcessing.{consolidation_refusal, process_consolidation};

@@ -1,5 +1,8 @@
 // Edges run through the public calls on the mainnet row, but for one with another minimum churn. One line an edge: the
 // answer, then what the edge is about. The expected output stands in the file stdout.
+
+#![tactic(auto)]
+
 use electra::total::Total;
 use helpers::assignment;
 use libc::STDOUT_FILENO;

@@ -1,5 +1,8 @@
 // The public calls, one to a file. Each tests what it was handed and answers a number; a refusal changes nothing that
 // was lent.
+
+#![tactic(auto)]
+
 pub mod reward; // reward
 pub mod penalty; // penalty
 pub mod deposits; // process_pending_balance_deposits

@@ -9,7 +9,7 @@ ghost use Rattle.electra.specs.Total.{total_number, total_sum};
 use primitives::{Gwei, Scalars, Settings, answers};
 
 // The sum, or why there is none.
-#[derive(Drop)]
+#[derive(Clone, Copy)]
 pub enum Total {
     Held(Gwei),
     UnsoundSettings,

@@ -1,4 +1,7 @@
 // The rest of electra/epoch_processing.rs: the effective balances, and the turn made of the three steps.
+
+#![tactic(auto)]
+
 pub mod effective_balances; // process_effective_balance_updates
 
 ghost use Rattle.std.specs.Prelude.{◌≡◌, true, ◌+◌, ◌≤◌, length};

@@ -1,4 +1,7 @@
 // The turn of an epoch on books that the tests accepted.
+
+#![tactic(auto)]
+
 ghost use Rattle.std.specs.Prelude.{◌≡◌};
 ghost use Rattle.rules.specs.Calls.{handed_refusal, turn};
 ghost use Rattle.primitives.specs.Settings.{settings_of};

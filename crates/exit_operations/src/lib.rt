@@ -1,4 +1,7 @@
 // Voluntary exits, and the exit that a request and a voluntary exit share.
+
+#![tactic(auto)]
+
 ghost use Rattle.std.specs.Prelude.{◌≡◌, true, List, ℕ, ◌+◌, ◌<◌, ◌≤◌};
 ghost use Rattle.rules.specs.Types.{FAR};
 ghost use Rattle.rules.specs.Helpers.{initiate_validator_exit};

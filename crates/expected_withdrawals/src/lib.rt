@@ -1,4 +1,7 @@
 // The withdrawals that a block is expected to make: get_expected_withdrawals of electra/block_processing.rs.
+
+#![tactic(auto)]
+
 ghost use Rattle.std.specs.Prelude.{◌≡◌, List, ℕ, ◌+◌, ◌-◌, ◌%◌, ◌<◌, ◌≤◌, ◌^◌, min};
 ghost use Rattle.rules.specs.BlockProcessing.{is_partial_payable, sweep_amount};
 ghost use Rattle.primitives.specs.Settings.{settings_of};
@@ -17,7 +20,7 @@ use primitives::{
 };
 use records::queues::PendingPartialWithdrawal;
 
-#[derive(Drop)]
+#[derive(Clone, Copy)]
 pub struct Withdrawal {
     pub index: WithdrawalIndex,
     pub validator_index: ValidatorIndex,
@@ -27,7 +30,7 @@ pub struct Withdrawal {
 
 // Of the sixteen records the first `count` are withdrawals and the others are blank; of the withdrawals the first
 // `partials` are partial withdrawals.
-#[derive(Drop)]
+#[derive(Clone, Copy)]
 pub struct ExpectedWithdrawals {
     pub list: [Withdrawal; 16],
     pub count: usize,

@@ -1,5 +1,8 @@
 // Whether the books of a books file are sound, judged on the file before anything is stored: the tests of `acceptance`,
 // in one pass over each list of the file.
+
+#![tactic(auto)]
+
 ghost use Rattle.std.specs.Prelude.{◌≡◌, true, ◌≤◌, ◌^◌, drop};
 ghost use Rattle.lists.specs.Base.{every};
 ghost use Rattle.rules.specs.Types as rule;

@@ -1,5 +1,8 @@
 // Fields of bytes in a file, from word k on: public keys, credentials, addresses. Only what was judged good is read. A
 // word of three bytes stands in the file as the third, the second, the first and its kind.
+
+#![tactic(auto)]
+
 ghost use Rattle.std.specs.Prelude.{◌≡◌, true, ◌+◌, ◌*◌, ◌/◌, ◌≤◌, ◌^◌, length, drop};
 ghost use Rattle.std.proofs.Math.Seq.{paste};
 ghost use Rattle.file_format.specs.Words.{words};

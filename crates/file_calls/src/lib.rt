@@ -1,5 +1,8 @@
 // One call of a calls file, carried out on accepted books. The file was judged good, and the call stands at word k. The
 // sum that the books hold comes along, so that no call adds the balances up to judge 41.
+
+#![tactic(auto)]
+
 mod balances; // codes 1 to 3
 mod exits; // codes 4 to 6
 mod periodic; // codes 7 and 8

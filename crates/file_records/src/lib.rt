@@ -1,5 +1,8 @@
 // The settings, the scalars and the queues' records of a books file, read by value where they stand. Only what was
 // judged good is read, so nothing is tested here.
+
+#![tactic(auto)]
+
 ghost use Rattle.std.specs.Prelude.{◌≡◌, true, ◌+◌, ◌*◌, ◌≤◌, ◌^◌, drop};
 ghost use Rattle.tables.specs.Rows.{rows};
 ghost use Rattle.rules.specs.Profiles.{settings_from};

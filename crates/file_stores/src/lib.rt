@@ -1,4 +1,7 @@
 // The fields of a file, written into a lent buffer from word k on. The caller sees to it that they fit.
+
+#![tactic(auto)]
+
 ghost use Rattle.std.specs.Prelude.{◌≡◌, [], ◌∷◌, ◌+◌, ◌*◌, ◌/◌, ◌≤◌, ◌<◌, ◌^◌, length, get_or, take};
 ghost use Rattle.file_format.specs.Words.{word, words, end_word};
 ghost use Rattle.file_format.specs.Fields.{number, flag, three_bytes, field_words, each};
@@ -138,7 +141,7 @@ pub fn put_end(out: &mut [u8], n: usize)
 // ---- a whole file
 
 // What a writer of a file answers: the number of its cause, and how many bytes the file has.
-#[derive(Drop)]
+#[derive(Clone, Copy)]
 pub struct Written {
     pub number: u8,
     pub length: usize,

@@ -1,6 +1,9 @@
 // The fields of a file, read where they stand: whether the words from word k on are one, and which. A word behind the
 // end reads as 0, which is of no kind. A loop asks once whether all its words are there, and then stops at none: so the
 // compiler takes several words at a time.
+
+#![tactic(auto)]
+
 ghost use Rattle.std.specs.Prelude.{◌≡◌, ◌+◌, ◌*◌, ◌/◌, ◌%◌, ◌^◌, ◌<◌, ◌≤◌, true, ◌&&◌, length, take, drop, slice_index};
 ghost use Rattle.file_format.specs.Words.{words, is_word, wrapping_sum};
 ghost use Rattle.file_format.specs.Fields.{number, flag, field, field_ok, many};

@@ -7,14 +7,14 @@ use primitives::answers::{CHURN_ZERO, DONE, RESULT_EPOCH_OVER_BOUND};
 use primitives::{BOUND, Epoch, Gwei};
 
 // What is left of the churn of the epoch assigned, and that epoch.
-#[derive(Drop)]
+#[derive(Clone, Copy)]
 pub struct Assignment {
     pub left: Gwei,
     pub epoch: Epoch,
 }
 
 // The bare assignment's answer, by its cause.
-#[derive(Drop)]
+#[derive(Clone, Copy)]
 pub enum AssignmentAnswer {
     Assigned(Assignment),
     ChurnZero,

@@ -11,7 +11,7 @@ use primitives::{Gwei, Scalars, ValidatorIndex};
 use records::queues::PendingPartialWithdrawal;
 
 // Where a key stands in the registry.
-#[derive(Drop)]
+#[derive(Clone, Copy)]
 pub enum Found {
     At(ValidatorIndex),
     Nowhere,

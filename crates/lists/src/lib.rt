@@ -1,1 +1,3 @@
 // Functions on tests and lists, and their laws: specs/ alone, no code.
+
+#![tactic(auto)]

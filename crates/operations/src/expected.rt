@@ -9,7 +9,7 @@ use expected_withdrawals::ExpectedWithdrawals;
 use primitives::{Scalars, Settings, answers};
 
 // The answer, and the list; a refusal has an empty list of blank records.
-#[derive(Drop)]
+#[derive(Clone, Copy)]
 pub struct Expected {
     pub number: u8,
     pub withdrawals: ExpectedWithdrawals,

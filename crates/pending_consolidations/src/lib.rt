@@ -1,4 +1,7 @@
 // process_pending_consolidations: entries are consolidated in order, up to the first whose source is not withdrawable.
+
+#![tactic(auto)]
+
 pub mod balances; // what the step reads of a validator's balance
 
 ghost use Rattle.std.specs.Prelude.{◌≡◌, true, List, ℕ, ◌+◌, ◌<◌, ◌≤◌, length};
@@ -82,7 +85,7 @@ fn consolidate(
 }
 
 // What the consolidation loop leaves: the scalars, and the position of the first entry not reached.
-#[derive(Drop)]
+#[derive(Clone, Copy)]
 pub struct ProcessedConsolidations {
     pub scalars: Scalars,
     pub next: usize,

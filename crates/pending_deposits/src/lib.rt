@@ -1,4 +1,7 @@
 // The deposit step: waiting deposits are credited in order, up to the first that is too large.
+
+#![tactic(auto)]
+
 ghost use Rattle.std.specs.Prelude.{◌≡◌, true, List, ℕ, ◌+◌, ◌≤◌};
 ghost use Rattle.lists.specs.Base.{every};
 ghost use Rattle.tables.specs.Rows.{rows};
@@ -15,7 +18,7 @@ ghost use Rattle.pending_deposits.specs.Deposits.{validator_balances, Credited, 
 use primitives::{Gwei, Scalars, Settings};
 
 // What the deposit loop has processed: the amount, and the position of the first deposit not reached.
-#[derive(Drop)]
+#[derive(Clone, Copy)]
 pub struct ProcessedDeposits {
     pub amount: Gwei,
     pub next: usize,

@@ -1,4 +1,7 @@
 // Units, settings, scalars, and the constant rows of chain values.
+
+#![tactic(auto)]
+
 pub mod answers; // the numbers of the answers
 
 ghost use Rattle.std.specs.Prelude.{◌≡◌, ◌-◌, min, max};
@@ -16,16 +19,16 @@ pub const FAR_FUTURE_EPOCH: u64 = 0xffff_ffff_ffff_ffff;
 pub const BOUND: u64 = 0x4000_0000_0000_0000;
 
 // The aliases of the Rust, as separate kinds of unit.
-#[derive(Drop)]
+#[derive(Clone, Copy)]
 pub struct Gwei(pub u64);
 
-#[derive(Drop)]
+#[derive(Clone, Copy)]
 pub struct Epoch(pub u64);
 
-#[derive(Drop)]
+#[derive(Clone, Copy)]
 pub struct ValidatorIndex(pub usize);
 
-#[derive(Drop)]
+#[derive(Clone, Copy)]
 pub struct WithdrawalIndex(pub u64);
 
 pub fn min(a: Gwei, b: Gwei) -> Gwei
@@ -53,7 +56,7 @@ pub fn saturating_sub(a: u64, b: u64) -> u64
 }
 
 // The fifteen chain values, then the limits of the registry and of the three queues.
-#[derive(Drop)]
+#[derive(Clone, Copy)]
 pub struct Settings {
     pub min_activation_balance: Gwei,
     pub max_effective_balance_electra: Gwei,
@@ -77,7 +80,7 @@ pub struct Settings {
 }
 
 // The numbers of the books that stand in no table, then how many records each table holds.
-#[derive(Drop)]
+#[derive(Clone, Copy)]
 pub struct Scalars {
     pub epoch: Epoch,
     pub next_withdrawal_index: WithdrawalIndex,
@@ -95,7 +98,7 @@ pub struct Scalars {
 }
 
 // What a call answers: the number of its cause, and the scalars that it leaves.
-#[derive(Drop)]
+#[derive(Clone, Copy)]
 pub struct Outcome {
     pub number: u8,
     pub scalars: Scalars,

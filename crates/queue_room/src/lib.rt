@@ -1,5 +1,8 @@
 // Answer 40 of the consolidation step and of a turn, before the first store: whether the deposit queue is within its
 // limit afterwards. The step is carried out on a copy of the balances that a switch can still take an excess from.
+
+#![tactic(auto)]
+
 ghost use Rattle.std.specs.Prelude.{◌≡◌, List, ℕ, ◌+◌, ◌<◌, ◌≤◌, ◌^◌, length, get_or, leb};
 ghost use Rattle.rules.specs.Types as rule;
 ghost use Rattle.rules.specs.Helpers.{prefix, get_activation_exit_churn_limit};

@@ -1,4 +1,7 @@
 // Deposit receipts. A bad signature is no refusal: an unknown key is not added, a known key is not switched.
+
+#![tactic(auto)]
+
 ghost use Rattle.std.specs.Prelude.{◌≡◌, true, List, ℕ, ◌+◌, ◌<◌, leb};
 ghost use Rattle.lists.specs.Base.{if◌then◌else◌};
 ghost use Rattle.rules.specs.Types as rule;

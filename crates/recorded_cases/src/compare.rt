@@ -3,7 +3,7 @@ use crate::container::at_most;
 use libc::STDOUT_FILENO;
 use std::num::wrapping_add_u64;
 
-#[derive(Drop)]
+#[derive(Clone, Copy)]
 pub struct Counts {
     pub cases: u64,
     pub calls: u64,
@@ -13,7 +13,7 @@ pub struct Counts {
 }
 
 // The case that is replayed, its group, the counts of this group and those of the groups before it.
-#[derive(Drop)]
+#[derive(Clone, Copy)]
 pub struct Replay {
     pub case: u32,
     pub group: u32,

@@ -26,7 +26,7 @@ pub const EXPECTED: u32 = 5;
 
 pub const ASSIGNMENTS: u32 = 6;
 
-#[derive(Drop)]
+#[derive(Clone, Copy)]
 pub struct Case {
     pub number: u32,
     pub group: u32,
@@ -58,7 +58,7 @@ pub fn next_case(fd: i32) -> Case {
     }
 }
 
-#[derive(Drop)]
+#[derive(Clone, Copy)]
 struct Span {
     start: usize,
     end: usize,

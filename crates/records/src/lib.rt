@@ -1,4 +1,7 @@
 // The records of the books: their structs, the tests of a validator, and the reads and stores of the lent tables.
+
+#![tactic(auto)]
+
 pub mod bytes; // copies and comparisons of fixed bytes
 pub mod validator; // the validator record and its tests
 pub mod registry; // the identities and the validators' words

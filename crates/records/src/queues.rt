@@ -8,20 +8,20 @@ ghost use Rattle.records.specs.Queues.{DepositsDrained, PartialsDrained, Consoli
 
 use primitives::{Epoch, Gwei, ValidatorIndex};
 
-#[derive(Drop)]
+#[derive(Clone, Copy)]
 pub struct PendingBalanceDeposit {
     pub index: ValidatorIndex,
     pub amount: Gwei,
 }
 
-#[derive(Drop)]
+#[derive(Clone, Copy)]
 pub struct PendingPartialWithdrawal {
     pub index: ValidatorIndex,
     pub amount: Gwei,
     pub withdrawable_epoch: Epoch,
 }
 
-#[derive(Drop)]
+#[derive(Clone, Copy)]
 pub struct PendingConsolidation {
     pub source_index: ValidatorIndex,
     pub target_index: ValidatorIndex,

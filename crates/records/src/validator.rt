@@ -10,7 +10,7 @@ ghost use Rattle.records.specs.Plain.{plain_validator};
 use primitives::{Epoch, Gwei, Settings};
 
 // A flag in `slashed`: 0 or 1.
-#[derive(Drop)]
+#[derive(Clone, Copy)]
 pub struct Validator {
     pub public_key: [u8; 48],
     pub withdrawal_credentials: [u8; 32],

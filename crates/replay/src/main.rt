@@ -1,5 +1,8 @@
 // Replays recorded cases through the library and compares what it answers with what was recorded: one line a group,
 // then one for all. Of the first difference all is printed. The container is described in oracle/recorded/README.md.
+
+#![tactic(auto)]
+
 ghost use Rattle.std.specs.Prelude.{◌≤◌};
 
 use file_words::word_at;

@@ -1,6 +1,9 @@
 // A recorded case through the library: the opening read into tables of the stated room, the calls carried out, the
 // table of their answers, the closing books written, and the list that is expected on them. All of it promises safety
 // alone.
+
+#![tactic(auto)]
+
 mod closing; // the closing books
 mod printed; // the refusal and the table
 

@@ -1,4 +1,7 @@
 // Withdrawal requests of the execution layer. A request that fails a test is set aside: it is done and changes nothing.
+
+#![tactic(auto)]
+
 ghost use Rattle.std.specs.Prelude.{◌≡◌, true, not, ◌&&◌, List, ℕ, ◌+◌, ◌<◌, ◌≤◌, eqb};
 ghost use Rattle.rules.specs.Types as rule;
 ghost use Rattle.rules.specs.BlockProcessing.{request_partial_withdrawal};

@@ -1,4 +1,7 @@
 // The calls of a file, carried out on lent books that are tested once.
+
+#![tactic(auto)]
+
 pub mod lines; // one call with its line in the results
 pub mod sums; // the sum that the books hold, carried from call to call
 
@@ -14,7 +17,7 @@ use primitives::{Gwei, Scalars, Settings, answers};
 
 // What carrying out a calls file answers: the number of its cause, the scalars that it leaves, and how many calls were
 // carried out.
-#[derive(Drop)]
+#[derive(Clone, Copy)]
 pub struct Carried {
     pub number: u8,
     pub scalars: Scalars,
@@ -23,7 +26,7 @@ pub struct Carried {
 
 // What is known before the first call: the number of the refusal, or 0 with the sum that the books hold and how many
 // calls the file has.
-#[derive(Drop)]
+#[derive(Clone, Copy)]
 struct Judgement {
     number: u8,
     held: Gwei,

@@ -19,7 +19,7 @@ fn put_line(results: &mut [u64], i: usize, code: u64, answer: u64, total: Gwei)
 }
 
 // What a call leaves: the scalars, and the sum that the books hold.
-#[derive(Drop)]
+#[derive(Clone, Copy)]
 pub struct LineDone {
     pub scalars: Scalars,
     pub sum: Gwei,

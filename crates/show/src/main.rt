@@ -1,5 +1,8 @@
 // Prints a file of books or of calls as plain text, one record a line. The file is read word by word through a buffer,
 // so that its size does not matter; at the first word that is not as it should be the text ends in a line `broken`.
+
+#![tactic(auto)]
+
 mod pattern; // text from a pattern and the words of the file
 mod words; // the words of the file, one after another
 

@@ -2,7 +2,7 @@
 
 // The word that was read last, the sum of those before it, the place of the next in the buffer and how many are there,
 // whether all was as it should be, and how much text waits to be written.
-#[derive(Drop)]
+#[derive(Clone, Copy)]
 pub struct Reading {
     pub fd: i32,
     pub word: u32,

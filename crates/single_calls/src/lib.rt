@@ -1,6 +1,9 @@
 // The calls of a file carried out one by one through the public calls, each of which tests what it is handed. Beside
 // the calls of the format the file may hold the steps of a turn alone, codes 91, 92 and 93, which have no fields. It is
 // for tests: what it promises is safety alone.
+
+#![tactic(auto)]
+
 mod calls; // one function a call with fields
 mod codes; // which call, by its code
 mod sums; // what the books hold
@@ -11,7 +14,7 @@ use primitives::{Scalars, Settings, answers};
 use runs::Carried;
 
 // What one call answers, with the scalars that it leaves and what the books hold after it.
-#[derive(Drop)]
+#[derive(Clone, Copy)]
 struct Answer {
     number: u8,
     scalars: Scalars,
@@ -19,7 +22,7 @@ struct Answer {
 }
 
 // How far the calls are carried out: the answer for all of them, the scalars, and the word of the next call.
-#[derive(Drop)]
+#[derive(Clone, Copy)]
 struct Walk {
     number: u8,
     scalars: Scalars,

@@ -1,4 +1,7 @@
 // Settings, scalars, keys and addresses as plain slices, for calls from other languages.
+
+#![tactic(auto)]
+
 pub mod bytes; // keys, credentials, addresses
 pub mod withdrawals; // lists of withdrawals
 

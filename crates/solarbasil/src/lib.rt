@@ -1,5 +1,8 @@
 // The functions of the static library, one to a file. Settings, scalars and tables are lent as plain slices; each
 // function answers a number, and a refusal changes nothing that was lent.
+
+#![tactic(auto)]
+
 pub mod reward; // solarbasil_reward
 pub mod penalty; // solarbasil_penalty
 pub mod deposits; // solarbasil_process_pending_balance_deposits

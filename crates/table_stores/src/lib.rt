@@ -1,5 +1,8 @@
 // The records of a books file stored into the lent tables, list by list. Only a file that was judged good, and whose
 // records the tables have room for, is stored.
+
+#![tactic(auto)]
+
 ghost use Rattle.std.specs.Prelude.{◌≡◌, true, ◌≤◌, ◌<◌, ◌^◌, drop};
 ghost use Rattle.records.specs.Layout.{identities_fit, validators_fit, deposits_fit, partials_fit, consolidations_fit};
 ghost use Rattle.records.specs.Books.{tables};

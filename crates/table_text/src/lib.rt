@@ -1,4 +1,7 @@
 // What the program `books` prints, put at the start of a lent buffer: the table of a run, or the number of a refusal.
+
+#![tactic(auto)]
+
 ghost use Rattle.std.specs.Prelude.{◌≡◌, ◌+◌, ◌*◌, ◌%◌, ◌≤◌, ◌<◌, length};
 ghost use Rattle.std.proofs.lemmas.List.Edits.{sets};
 ghost use Rattle.table_text.specs.Lines.{line, lines_of};

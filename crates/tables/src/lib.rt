@@ -1,1 +1,3 @@
 // Laws of tables of records: specs/ alone, no code.
+
+#![tactic(auto)]

@@ -2,6 +2,9 @@
 // `credit` judges one deposit; `affordable` walks the slice; `affordable_of` holds up to sixteen deposits by value and
 // lends them, so that whoever calls it needs no reference to records; `affordable_deposits` reads a table in such
 // blocks.
+
+#![tactic(auto)]
+
 ghost use Rattle.std.specs.Prelude.{◌≡◌, ◌≤◌, take};
 ghost use Rattle.tables.specs.Rows.{rows};
 ghost use Rattle.records.specs.Layout.{deposit_at, deposits_fit};
@@ -12,14 +15,14 @@ use primitives::{Gwei, ValidatorIndex, min_usize};
 use records::queues::PendingBalanceDeposit;
 
 // Whether a deposit is within what is left, and what is left after it.
-#[derive(Drop)]
+#[derive(Clone, Copy)]
 pub struct Credited {
     pub within: bool,
     pub left: Gwei,
 }
 
 // How many deposits are credited, and what is left then.
-#[derive(Drop)]
+#[derive(Clone, Copy)]
 pub struct AffordableDeposits {
     pub count: usize,
     pub left: Gwei,
@@ -75,7 +78,7 @@ pub fn affordable_of(
 // ---- a table of deposits
 
 // Up to sixteen deposits: the first `count` of the array.
-#[derive(Drop)]
+#[derive(Clone, Copy)]
 pub struct DepositBlock {
     pub deposits: [PendingBalanceDeposit; 16],
     pub count: usize,

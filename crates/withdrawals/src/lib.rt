@@ -1,4 +1,7 @@
 // process_withdrawals of electra/block_processing.rs: a handed list is compared with the expected one, and paid.
+
+#![tactic(auto)]
+
 ghost use Rattle.std.specs.Prelude.{◌≡◌, true, ◌+◌, ◌<◌, ◌≤◌, ◌^◌};
 ghost use Rattle.lists.specs.Base.{every};
 ghost use Rattle.rules.specs.Types as rule;
