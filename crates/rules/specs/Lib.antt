@@ -8,6 +8,3 @@ pub mod Acceptance
 pub mod Calls
 pub mod Counting
 pub mod Examples
-pub mod Edges
-pub mod Causes
-pub mod Worked
