@@ -1,0 +1,7 @@
+-- `file_words::number_ok` meets its contract.
+use Rattle.std.proofs.Common.{rules}
+use Rattle.file_words.specs.Laws.{number_outside}
+use Rattle.file_words.proofs.number_ok.Goals as goal
+
+pub returns-then-file-k : goal.returns-then-file-k
+returns-then-file-k c = search (number_outside, rules)
