@@ -58,7 +58,7 @@ def defined(name):
 
 
 def main():
-    for name, definition, data in (("opening.w", "opening-words", opening()), ("calls.w", "calls-words", calls())):
+    for name, definition, data in (("opening.w", "opening_words", opening()), ("calls.w", "calls_words", calls())):
         found = {
             "words of the page": by_words(name),
             "bytes of the page": by_bytes(name),
