@@ -4,7 +4,7 @@
     definitions.py COUNT [--seed S] [--wrong]
 
 The checker computes the definitions themselves and no code of the library: for each list the answers (`answers`), the
-closing books (`run`), the withdrawals expected on these (`get-expected-withdrawals`) and what the list counts
+closing books (`run`), the withdrawals expected on these (`get_expected_withdrawals`) and what the list counts
 (`counted`). The first three must be what the oracle prints and writes; what is counted is worked out by counting.py
 from the books that the oracle leaves after each call. Books that the program `books` would refuse are handed to the
 calls all the same: every call is then answered 1, 2 or 3, and the expected withdrawals are left out. Not compared: the
@@ -43,15 +43,13 @@ MOST_CALLS = 10
 # kept under a name that `rt` does not take for a lost file of a crate
 EQUATIONS = "equations.txt"
 
-HEAD = f"""use mathlib.Core.Path.{{_≡_, refl}}
-use mathlib.Core.Bool.{{true, false}}
-use mathlib.Core.List.{{List, [], _∷_}}
-use Rattle·rules.specs.Types.{{Settings, Books}}
-use Rattle·rules.specs.BlockProcessing.{{get-expected-withdrawals}}
-use Rattle·rules.specs.Calls.{{Call, answers, run}}
-use Rattle·rules.specs.Calls.{{{", ".join(literals.OPERATIONS.values())}}}
-use Rattle·rules.specs.Counting.{{counted}}
-use Rattle·rules.specs.Examples.{{opened}}
+HEAD = f"""use Rattle.std.specs.Prelude.{{◌≡◌, refl, true, false, List, [], ◌∷◌}}
+use Rattle.rules.specs.Types.{{Settings, Books}}
+use Rattle.rules.specs.BlockProcessing.{{get_expected_withdrawals}}
+use Rattle.rules.specs.Calls.{{Call, answers, run}}
+use Rattle.rules.specs.Calls.{{{", ".join(literals.OPERATIONS.values())}}}
+use Rattle.rules.specs.Counting.{{counted}}
+use Rattle.rules.specs.Examples.{{opened}}
 """
 
 
@@ -115,13 +113,13 @@ def write_equations(case, directory, dice):
         ("calls", "List Call", literals.calls(calls, PROGRAM_BUFFERS)),
     ]
     equations = [
-        ("same-answers", "answers settings opening calls", literals.listed(answers)),
-        ("same-closing", "run settings opening calls", literals.books(closing)),
-        ("same-counted", "counted settings opening calls", literals.counted(counts)),
+        ("same_answers", "answers settings opening calls", literals.listed(answers)),
+        ("same_closing", "run settings opening calls", literals.books(closing)),
+        ("same_counted", "counted settings opening calls", literals.counted(counts)),
     ]
     if result.expected is not None:
-        left = "get-expected-withdrawals settings (run settings opening calls)"
-        equations.append(("same-expected", left, literals.withdrawals(result.expected)))
+        left = "get_expected_withdrawals settings (run settings opening calls)"
+        equations.append(("same_expected", left, literals.withdrawals(result.expected)))
     text = HEAD
     for name, type_name, value in given:
         text += f"\npub {name} : {type_name}\n{name} = {value}\n"
@@ -133,8 +131,9 @@ def write_equations(case, directory, dice):
 
 def lay_out_repository(root):
     for name in ("lists", "rules"):
-        for part in ("src", "specs"):
-            shutil.copytree(CRATES / name / part, root / "crates" / name / part)
+        for part in ("src", "specs", "proofs"):
+            if (CRATES / name / part).exists():
+                shutil.copytree(CRATES / name / part, root / "crates" / name / part)
     (root / "crates.txt").write_text("lists:\nrules: lists\nequations: lists rules\n")
 
 
@@ -144,11 +143,11 @@ def differing(root, directories):
     shutil.rmtree(crate, ignore_errors=True)
     for part in ("src", "specs"):
         (crate / part).mkdir(parents=True)
-    (crate / "src" / "lib.rt").write_text("// Equations alone, no code.\n")
+    (crate / "src" / "lib.rt").write_text("// Equations alone, no code.\n\n#![tactic(auto)]\n")
     (crate / "specs" / "Lib.antt").write_text("".join(f"pub mod {one.name}\n" for one in directories))
     for one in directories:
         shutil.copy(one / EQUATIONS, crate / "specs" / f"{one.name}.antt")
-    done = subprocess.run(["rt", "check", "equations"], cwd=root, capture_output=True, text=True)
+    done = subprocess.run(["rt", "check"], cwd=crate, capture_output=True, text=True)
     found = {}
     for name, told in re.findall(r"specs/(\w+)\.antt:\d+:\d+: error: (.*(?:\n  .*)*)", done.stdout):
         found.setdefault(name, []).append(told)

@@ -11,15 +11,15 @@ SPECS = pathlib.Path(__file__).resolve().parent.parent / "crates" / "rules" / "s
 OPERATIONS = {
     1: "reward",
     2: "penalty",
-    3: "deposit-receipt",
-    4: "voluntary-exit",
-    5: "withdrawal-request",
+    3: "deposit_receipt",
+    4: "voluntary_exit",
+    5: "withdrawal_request",
     6: "consolidation",
     7: "turn",
     8: "withdrawals",
-    91: "pending-balance-deposits",
-    92: "pending-consolidations",
-    93: "effective-balance-updates",
+    91: "pending_balance_deposits",
+    92: "pending_consolidations",
+    93: "effective_balance_updates",
 }
 
 
