@@ -1,9 +1,9 @@
 #!/usr/bin/env bash
 # run.sh [ROUNDS]: each public call on 1,024, 16,384 and 65,536 validators, the static library beside the mended Rust;
 # the tests alone; books files beside a plain copy and a plain read, and calls files beside the Rust in a loop. Prints
-# the tables of docs/BENCHMARKS.md. It makes target/staticlib/libsolarbasil.a first: about a minute where all crates are
-# proved; on a fresh clone it proves them all, some 12 minutes. Needs rt and cargo; DOCS_SRC says where docs/src is, as
-# for the oracle. No network.
+# the tables of docs/BENCHMARKS.md. It makes the library crates/solarbasil/out/libsolarbasil.a first, and for it proves
+# what is not proved yet: on a fresh clone every crate below. Needs rt and cargo; DOCS_SRC says where docs/src is, as for
+# the oracle. No network.
 set -euo pipefail
 cd "$(dirname "$0")"
 root=$(cd .. && pwd)
@@ -11,6 +11,6 @@ docs=${DOCS_SRC:-../shared/docs/src}
 export DOCS_SRC=$(cd "$root" && cd "$docs" && pwd)
 export CARGO_TARGET_DIR=$root/target/bench
 # the tables alone go to the output
-(cd "$root" && rt staticlib solarbasil | tail -1) >&2
+(cd "$root/crates/solarbasil" && rt lib | tail -1) >&2
 cargo build --release --offline --locked --quiet
 exec "$CARGO_TARGET_DIR/release/bench" "$@"

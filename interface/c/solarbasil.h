@@ -1,6 +1,6 @@
 /* Solarbasil: proved balance books for Ethereum validators (Electra), as a static library for x86-64 Linux.
  *
- * `rt staticlib solarbasil` writes target/staticlib/libsolarbasil.a. It needs memset and memcpy of the C library.
+ * `rt lib` in crates/solarbasil writes out/libsolarbasil.a there. It needs memset and memcpy of the C library.
  *
  * Stack. The turn, the consolidation step and a calls file take less than 530,000 bytes, every other call less than
  * 8,000. A thread with a stack of 1 MiB has enough for all of them.

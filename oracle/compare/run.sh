@@ -3,9 +3,9 @@
 # one process, answers and books compared. Without numbers it lists the options.
 # run.sh --memcheck COUNT SEED [OPTIONS]: the same under valgrind's memcheck, which fails on an access outside what is
 # lent; about ten times slower.
-# First the static library is made of the crates as they stand (a minute or two where they are proved; on a fresh clone
-# all are proved, some 12 minutes), and the tests run that show that a difference is noticed. SOLARBASIL_LIB=FOLDER
-# links the library of that folder instead, and makes none.
+# First the static library is made of the crates as they stand (what is not proved yet is proved for it: on a fresh
+# clone every crate below), and the tests run that show that a difference is noticed. SOLARBASIL_LIB=FOLDER links the
+# library of that folder instead, and makes none.
 # Needs rt and cargo; DOCS_SRC says where docs/src is, as for the oracle. No network.
 set -euo pipefail
 root=$(cd "$(dirname "$0")/../.." && pwd)
@@ -19,7 +19,7 @@ if [ "${1:-}" = --memcheck ]; then
 fi
 
 if [ -z "${SOLARBASIL_LIB:-}" ]; then
-    (cd "$root" && rt staticlib solarbasil | tail -1)
+    (cd "$root/crates/solarbasil" && rt lib | tail -1)
 fi
 (cd "$root/oracle/compare" && cargo test --release --offline --locked --quiet &&
     cargo build --release --offline --locked --quiet)
