@@ -1,6 +1,6 @@
 // What was recorded against what was found. Differences are counted, and the first is printed in full.
 use crate::container::at_most;
-use libc::STDOUT_FILENO;
+use std::io;
 use std::num::wrapping_add_u64;
 
 #[derive(Clone, Copy)]
@@ -55,18 +55,18 @@ impl Counts {
         }
     }
 
-    pub fn print(self) {
-        text(b" cases ");
-        number(self.cases);
-        text(b" calls ");
-        number(self.calls);
-        text(b" assignments ");
-        number(self.assignments);
-        text(b" compared ");
-        number(self.compared);
-        text(b" differences ");
-        number(self.differences);
-        text(b"\n");
+    pub fn print(self, to: &impl Print) -> io::Result<()> {
+        text(to, b" cases ")?;
+        number(to, self.cases)?;
+        text(to, b" calls ")?;
+        number(to, self.calls)?;
+        text(to, b" assignments ")?;
+        number(to, self.assignments)?;
+        text(to, b" compared ")?;
+        number(to, self.compared)?;
+        text(to, b" differences ")?;
+        number(to, self.differences)?;
+        text(to, b"\n")
     }
 }
 
@@ -85,12 +85,12 @@ impl Replay {
     }
 }
 
-pub fn text(bytes: &[u8]) {
-    io::write_all(STDOUT_FILENO, bytes);
+pub fn text(to: &impl Print, bytes: &[u8]) -> io::Result<()> {
+    to.write_all(bytes)
 }
 
-pub fn number(n: u64) {
-    io::print_decimal(STDOUT_FILENO, n);
+pub fn number(to: &impl Print, n: u64) -> io::Result<()> {
+    to.print(n)
 }
 
 // The first place where a and b are not the same; the length of the shorter where one begins with the other.
@@ -135,83 +135,87 @@ fn is_text(bytes: &[u8]) -> bool {
     true
 }
 
-fn wide(b: u8) -> u64 {
-    b as u64
-}
-
 // In hexadecimal, 32 bytes a line.
-fn print_bytes(bytes: &[u8]) {
+fn print_bytes(to: &impl Print, bytes: &[u8]) -> io::Result<()> {
     let mut i: usize = 0;
     while i < bytes.len() {
-        io::print_hex(STDOUT_FILENO, wide(bytes[i]), 2);
+        print!(to; "{:02x}", bytes[i])?;
         if i % 32 == 31 {
-            text(b"\n");
+            text(to, b"\n")?;
         }
         i += 1;
     }
-    text(b"\n");
+    text(to, b"\n")
 }
 
-fn print_whole(name: &[u8], bytes: &[u8]) {
-    text(name);
-    text(b", bytes ");
-    number(bytes.len() as u64);
-    text(b"\n");
+fn print_whole(to: &impl Print, name: &[u8], bytes: &[u8]) -> io::Result<()> {
+    text(to, name)?;
+    text(to, b", bytes ")?;
+    number(to, bytes.len() as u64)?;
+    text(to, b"\n")?;
     if is_text(bytes) {
-        text(bytes);
+        text(to, bytes)
     } else {
-        print_bytes(bytes);
+        print_bytes(to, bytes)
     }
 }
 
 // `what` names the thing that is compared.
-pub fn check(replay: Replay, what: &[u8], recorded: &[u8], found: &[u8]) -> Replay {
+pub fn check(
+    to: &impl Print,
+    replay: Replay,
+    what: &[u8],
+    recorded: &[u8],
+    found: &[u8],
+) -> io::Result<Replay> {
     let at = first_difference(recorded, found);
     let more = Counts {
         compared: 1,
         ..Counts::none()
     };
     if (at == recorded.len()) & (at == found.len()) {
-        return replay.counted(more);
+        return Ok(replay.counted(more));
     }
     let all = replay.all();
     if all.differences == 0 {
-        text(b"difference in case ");
-        number(replay.case as u64);
-        text(b": ");
-        text(what);
-        text(b", from byte ");
-        number(at as u64);
-        text(b"\n");
-        print_whole(b"recorded", recorded);
-        print_whole(b"found", found);
+        text(to, b"difference in case ")?;
+        number(to, replay.case as u64)?;
+        text(to, b": ")?;
+        text(to, what)?;
+        text(to, b", from byte ")?;
+        number(to, at as u64)?;
+        text(to, b"\n")?;
+        print_whole(to, b"recorded", recorded)?;
+        print_whole(to, b"found", found)?;
     }
-    replay.counted(Counts {
+    Ok(replay.counted(Counts {
         differences: 1,
         ..more
-    })
+    }))
 }
 
 // The same, of the first n bytes of a buffer.
 pub fn check_first(
+    to: &impl Print,
     replay: Replay,
     what: &[u8],
     recorded: &[u8],
     buffer: &[u8],
     n: usize,
-) -> Replay {
+) -> io::Result<Replay> {
     let length = at_most(n, buffer);
-    check(replay, what, recorded, &buffer[..length])
+    check(to, replay, what, recorded, &buffer[..length])
 }
 
 // The same, of the first n bytes of both.
 pub fn check_firsts(
+    to: &impl Print,
     replay: Replay,
     what: &[u8],
     recorded: &[u8],
     buffer: &[u8],
     n: usize,
-) -> Replay {
+) -> io::Result<Replay> {
     let length = at_most(n, recorded);
-    check_first(replay, what, &recorded[..length], buffer, n)
+    check_first(to, replay, what, &recorded[..length], buffer, n)
 }

@@ -3,6 +3,9 @@ ghost use Rattle.std.specs.Prelude.{◌≤◌, length};
 ghost use Rattle.io.specs.Counts.{IsPrefixLen};
 
 use file_words::word_at;
+use full_reads::read_full;
+use std::io;
+use std::io::Read;
 
 // The flags of a case.
 pub const PROGRAM: u32 = 1;
@@ -43,19 +46,19 @@ impl Case {
 }
 
 // The head of the next case.
-pub fn next_case(fd: i32) -> Case {
+pub fn next_case(file: &mut impl Read) -> io::Result<Case> {
     let mut head = [0u8; 24];
-    let got = io::read_full(fd, &mut head);
+    let got = read_full(file, &mut head)?;
     let room = word_at(&head, 3);
     let bytes = word_at(&head, 5);
-    Case {
+    Ok(Case {
         number: word_at(&head, 0),
         group: word_at(&head, 1),
         flags: word_at(&head, 2),
         room: room as usize,
         bytes: bytes as usize,
         whole: (got == 24) & (room <= 512) & (bytes <= 368640),
-    }
+    })
 }
 
 #[derive(Clone, Copy)]
@@ -107,7 +110,7 @@ pub fn at_most(n: usize, bytes: &[u8]) -> usize
     ensures { IsPrefixLen result bytes.now }
 {
     if n < 0x1000_0000 {
-        return io::count(n as isize, bytes);
+        return n.min(bytes.len());
     }
     0
 }
