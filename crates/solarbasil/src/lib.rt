@@ -6,7 +6,7 @@
 pub mod reward; // solarbasil_reward
 pub mod penalty; // solarbasil_penalty
 pub mod deposits; // solarbasil_process_pending_balance_deposits
-pub mod pending_consolidations; // solarbasil_process_pending_consolidations
+pub mod consolidation_step; // solarbasil_process_pending_consolidations
 pub mod effective_balances; // solarbasil_process_effective_balance_updates
 pub mod turns; // solarbasil_turn
 pub mod deposit_receipts; // solarbasil_process_deposit_receipt
@@ -17,6 +17,6 @@ pub mod payments; // solarbasil_process_withdrawals
 pub mod expected; // solarbasil_get_expected_withdrawals
 pub mod total; // solarbasil_total
 pub mod assignment; // solarbasil_epoch_assignment
-pub mod books_reader; // solarbasil_read_books
-pub mod books_writer; // solarbasil_write_books
+pub mod reader; // solarbasil_read_books
+pub mod writer; // solarbasil_write_books
 pub mod runner; // solarbasil_carry_out

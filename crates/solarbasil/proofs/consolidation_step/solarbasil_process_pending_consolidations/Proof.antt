@@ -1,10 +1,10 @@
 use borrow.Author.Rules.{rules}
 use mathlib.Core.List.{[]}
 use Rattle.slices.specs.Exported.{fit_room, exported_unfit, exported_called}
-use Rattle.solarbasil.proofs.pending_consolidations.solarbasil_process_pending_consolidations.Statement.{
+use Rattle.solarbasil.proofs.consolidation_step.solarbasil_process_pending_consolidations.Statement.{
   statement,
 }
-use Rattle.solarbasil.proofs.pending_consolidations.solarbasil_process_pending_consolidations.Tie as tie
+use Rattle.solarbasil.proofs.consolidation_step.solarbasil_process_pending_consolidations.Tie as tie
 
 settings-from-requires : tie.Need-settings-from-requires
 settings-from-requires c κs = search rules
