@@ -65,10 +65,10 @@ pub fn put_consolidation(out: &mut [u8], k: usize, c: PendingConsolidation)
 // ---- a count, and as many records
 
 pub fn put_validators(out: &mut [u8], k: usize, identities: &[u8], validators: &[u64], n: usize)
-    requires n_bound { n ≤ identities_fit identities.now }
-    requires n_bound_2 { n ≤ validators_fit validators.now }
-    requires validators_value { every is_flag (rows n (validator_at identities.now validators.now)) ≡ true }
-    requires n_bound_3 { n < 2 ^ 28 }
+    requires identities_hold { n ≤ identities_fit identities.now }
+    requires validators_hold { n ≤ validators_fit validators.now }
+    requires flags { every is_flag (rows n (validator_at identities.now validators.now)) ≡ true }
+    requires n_bound { n < 2 ^ 28 }
     requires n_in_bounds { (k + 1 + n * 46) * 4 ≤ length out.old }
     ensures { out.new
         ≡ put out.old k
@@ -84,8 +84,8 @@ pub fn put_validators(out: &mut [u8], k: usize, identities: &[u8], validators: &
 }
 
 pub fn put_deposits(out: &mut [u8], k: usize, deposits: &[u64], n: usize)
-    requires n_bound { n ≤ deposits_fit deposits.now }
-    requires n_bound_2 { n < 2 ^ 28 }
+    requires n_fits { n ≤ deposits_fit deposits.now }
+    requires n_bound { n < 2 ^ 28 }
     requires n_in_bounds { (k + 1 + n * 6) * 4 ≤ length out.old }
     ensures { out.new
         ≡ put out.old k ((list_of deposit).write (rows n (deposit_at deposits.now))) }
@@ -99,8 +99,8 @@ pub fn put_deposits(out: &mut [u8], k: usize, deposits: &[u64], n: usize)
 }
 
 pub fn put_partials(out: &mut [u8], k: usize, partials: &[u64], n: usize)
-    requires n_bound { n ≤ partials_fit partials.now }
-    requires n_bound_2 { n < 2 ^ 28 }
+    requires n_fits { n ≤ partials_fit partials.now }
+    requires n_bound { n < 2 ^ 28 }
     requires n_in_bounds { (k + 1 + n * 9) * 4 ≤ length out.old }
     ensures { out.new
         ≡ put out.old k ((list_of partial).write (rows n (partial_at partials.now))) }
@@ -114,8 +114,8 @@ pub fn put_partials(out: &mut [u8], k: usize, partials: &[u64], n: usize)
 }
 
 pub fn put_consolidations(out: &mut [u8], k: usize, consolidations: &[u64], n: usize)
-    requires n_bound { n ≤ consolidations_fit consolidations.now }
-    requires n_bound_2 { n < 2 ^ 28 }
+    requires n_fits { n ≤ consolidations_fit consolidations.now }
+    requires n_bound { n < 2 ^ 28 }
     requires n_in_bounds { (k + 1 + n * 6) * 4 ≤ length out.old }
     ensures { out.new
         ≡ put out.old k

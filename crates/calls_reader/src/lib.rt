@@ -148,7 +148,7 @@ fn fields_width(file: &[u8], k: usize, code: u32) -> usize
 // The word behind the call.
 pub fn next_call(file: &[u8], k: usize) -> usize
     requires k_bound { k ≤ 2 ^ 38 }
-    requires file_value { call.ok (drop k (words file.now)) ≡ true }
+    requires well_formed { call.ok (drop k (words file.now)) ≡ true }
     ensures { (drop result (words file.now) ≡ call.rest (drop k (words file.now)))
         × (result ≤ length (words file.now)) }
 {
@@ -243,8 +243,8 @@ pub struct Withdrawals {
 // Codes 1 and 2.
 pub fn amount_at(file: &[u8], k: usize) -> Amount
     requires k_bound { k ≤ 2 ^ 38 }
-    requires file_value { call.ok (drop k (words file.now)) ≡ true }
-    requires k_nonzero { (0 < code_at (words file.now) k) × (code_at (words file.now) k ≤ 2) }
+    requires well_formed { call.ok (drop k (words file.now)) ≡ true }
+    requires code { (0 < code_at (words file.now) k) × (code_at (words file.now) k ≤ 2) }
     ensures { (code_at (words file.now) k ≡ 1
         → reward result.i.0 result.amount.0 ≡ call.value (drop k (words file.now)))
         × (code_at (words file.now) k ≡ 2
@@ -259,8 +259,8 @@ pub fn amount_at(file: &[u8], k: usize) -> Amount
 // Code 3.
 pub fn receipt_at(file: &[u8], k: usize) -> Receipt
     requires k_bound { k ≤ 2 ^ 38 }
-    requires file_value { call.ok (drop k (words file.now)) ≡ true }
-    requires k_value { code_at (words file.now) k ≡ 3 }
+    requires well_formed { call.ok (drop k (words file.now)) ≡ true }
+    requires code { code_at (words file.now) k ≡ 3 }
     ensures { deposit_receipt result.public_key result.withdrawal_credentials result.amount.0 result.index result.valid
         ≡ call.value (drop k (words file.now)) }
 {
@@ -278,8 +278,8 @@ pub fn receipt_at(file: &[u8], k: usize) -> Receipt
 // Code 4.
 pub fn exit_at(file: &[u8], k: usize) -> Exit
     requires k_bound { k ≤ 2 ^ 38 }
-    requires file_value { call.ok (drop k (words file.now)) ≡ true }
-    requires k_value { code_at (words file.now) k ≡ 4 }
+    requires well_formed { call.ok (drop k (words file.now)) ≡ true }
+    requires code { code_at (words file.now) k ≡ 4 }
     ensures { voluntary_exit result.i.0 result.epoch.0 result.valid ≡ call.value (drop k (words file.now)) }
 {
     Exit {
@@ -292,8 +292,8 @@ pub fn exit_at(file: &[u8], k: usize) -> Exit
 // Code 5.
 pub fn request_at(file: &[u8], k: usize) -> Request
     requires k_bound { k ≤ 2 ^ 38 }
-    requires file_value { call.ok (drop k (words file.now)) ≡ true }
-    requires k_value { code_at (words file.now) k ≡ 5 }
+    requires well_formed { call.ok (drop k (words file.now)) ≡ true }
+    requires code { code_at (words file.now) k ≡ 5 }
     ensures { withdrawal_request result.source_address result.public_key result.amount.0
         ≡ call.value (drop k (words file.now)) }
 {
@@ -309,8 +309,8 @@ pub fn request_at(file: &[u8], k: usize) -> Request
 // Code 6.
 pub fn consolidation_at(file: &[u8], k: usize) -> Consolidation
     requires k_bound { k ≤ 2 ^ 38 }
-    requires file_value { call.ok (drop k (words file.now)) ≡ true }
-    requires k_value { code_at (words file.now) k ≡ 6 }
+    requires well_formed { call.ok (drop k (words file.now)) ≡ true }
+    requires code { code_at (words file.now) k ≡ 6 }
     ensures { consolidation result.source_index.0 result.target_index.0 result.epoch.0 result.valid
         ≡ call.value (drop k (words file.now)) }
 {
@@ -325,7 +325,7 @@ pub fn consolidation_at(file: &[u8], k: usize) -> Consolidation
 // One withdrawal, from word k on.
 fn withdrawal_at(file: &[u8], k: usize) -> Withdrawal
     requires k_bound { k ≤ 2 ^ 39 }
-    requires file_value { withdrawal.ok (drop k (words file.now)) ≡ true }
+    requires well_formed { withdrawal.ok (drop k (words file.now)) ≡ true }
     ensures { result ≡ coded_withdrawal (withdrawal.value (drop k (words file.now))) }
 {
     let address = address_at(file, k + 6);
@@ -340,8 +340,8 @@ fn withdrawal_at(file: &[u8], k: usize) -> Withdrawal
 // Code 8.
 pub fn withdrawals_at(file: &[u8], k: usize) -> Withdrawals
     requires k_bound { k ≤ 2 ^ 38 }
-    requires file_value { call.ok (drop k (words file.now)) ≡ true }
-    requires k_value { code_at (words file.now) k ≡ 8 }
+    requires well_formed { call.ok (drop k (words file.now)) ≡ true }
+    requires code { code_at (words file.now) k ≡ 8 }
     ensures { (withdrawals (handed_list result.list result.count) ≡ call.value (drop k (words file.now)))
         × (result.list ≡ map coded_withdrawal (padded 16 (handed_list result.list result.count))) }
 {

@@ -26,7 +26,7 @@ use primitives::{BOUND, Epoch, Gwei, Scalars, Settings};
 // Effective balance at most `most`, flag and epochs of the validator at word k.
 fn validator_within(most: Gwei, file: &[u8], k: usize) -> bool
     requires k_bound { k ≤ 2 ^ 39 }
-    requires file_value { validator.ok (drop k (words file.now)) ≡ true }
+    requires well_formed { validator.ok (drop k (words file.now)) ≡ true }
     ensures { result ≡ validator_within most.0 (validator.value (drop k (words file.now))) }
 {
     let slashed = flag_at(file, k + 27);
@@ -130,7 +130,7 @@ fn consolidations_in(file: &[u8], k: usize, m: usize, n: usize) -> bool
 // The books of a file that was judged good, with its scalars.
 pub fn file_books_sound(settings: Settings, scalars: Scalars, file: &[u8]) -> bool
     requires good { Good (words file.now) }
-    requires scalars_value { scalars ≡ scalars_at (words file.now) }
+    requires scalars_read { scalars ≡ scalars_at (words file.now) }
     ensures { result ≡ sound_books (settings_of settings) (books_at (words file.now)) }
 {
     if !scalars_within(settings, scalars) {

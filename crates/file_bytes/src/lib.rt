@@ -12,7 +12,7 @@ ghost use Rattle.file_format.specs.Fields.{field};
 
 // Its n / 3 full words.
 fn put_triples(file: &[u8], k: usize, n: usize, bytes: &mut [u8], at: usize)
-    requires file_value { (field n).ok (drop k (words file.now)) ≡ true }
+    requires well_formed { (field n).ok (drop k (words file.now)) ≡ true }
     requires n_in_bounds { at + n ≤ length bytes.old }
     ensures { bytes.new
         ≡ paste bytes.old at ((field n).value (drop k (words file.now))) (n / 3 * 3) }
@@ -30,7 +30,7 @@ fn put_triples(file: &[u8], k: usize, n: usize, bytes: &mut [u8], at: usize)
 }
 
 pub fn put_field(file: &[u8], k: usize, n: usize, bytes: &mut [u8], at: usize)
-    requires file_value { (field n).ok (drop k (words file.now)) ≡ true }
+    requires well_formed { (field n).ok (drop k (words file.now)) ≡ true }
     requires n_in_bounds { at + n ≤ length bytes.old }
     ensures { bytes.new
         ≡ paste bytes.old at ((field n).value (drop k (words file.now))) n }
@@ -54,7 +54,7 @@ pub fn put_field(file: &[u8], k: usize, n: usize, bytes: &mut [u8], at: usize)
 
 pub fn key_at(file: &[u8], k: usize) -> [u8; 48]
     requires k_bound { k ≤ 2 ^ 40 }
-    requires file_value { (field 48).ok (drop k (words file.now)) ≡ true }
+    requires well_formed { (field 48).ok (drop k (words file.now)) ≡ true }
     ensures { result ≡ (field 48).value (drop k (words file.now)) }
 {
     let mut out = [0u8; 48];
@@ -64,7 +64,7 @@ pub fn key_at(file: &[u8], k: usize) -> [u8; 48]
 
 pub fn credentials_at(file: &[u8], k: usize) -> [u8; 32]
     requires k_bound { k ≤ 2 ^ 40 }
-    requires file_value { (field 32).ok (drop k (words file.now)) ≡ true }
+    requires well_formed { (field 32).ok (drop k (words file.now)) ≡ true }
     ensures { result ≡ (field 32).value (drop k (words file.now)) }
 {
     let mut out = [0u8; 32];
@@ -74,7 +74,7 @@ pub fn credentials_at(file: &[u8], k: usize) -> [u8; 32]
 
 pub fn address_at(file: &[u8], k: usize) -> [u8; 20]
     requires k_bound { k ≤ 2 ^ 40 }
-    requires file_value { (field 20).ok (drop k (words file.now)) ≡ true }
+    requires well_formed { (field 20).ok (drop k (words file.now)) ≡ true }
     ensures { result ≡ (field 20).value (drop k (words file.now)) }
 {
     let mut out = [0u8; 20];

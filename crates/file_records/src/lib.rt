@@ -115,7 +115,7 @@ pub fn scalars_at(file: &[u8]) -> Scalars
 
 pub fn deposit_at(file: &[u8], k: usize) -> PendingBalanceDeposit
     requires k_bound { k ≤ 2 ^ 39 }
-    requires file_value { deposit.ok (drop k (words file.now)) ≡ true }
+    requires well_formed { deposit.ok (drop k (words file.now)) ≡ true }
     ensures { plain_deposit result ≡ deposit.value (drop k (words file.now)) }
 {
     PendingBalanceDeposit {
@@ -126,7 +126,7 @@ pub fn deposit_at(file: &[u8], k: usize) -> PendingBalanceDeposit
 
 pub fn partial_at(file: &[u8], k: usize) -> PendingPartialWithdrawal
     requires k_bound { k ≤ 2 ^ 39 }
-    requires file_value { partial.ok (drop k (words file.now)) ≡ true }
+    requires well_formed { partial.ok (drop k (words file.now)) ≡ true }
     ensures { plain_partial result ≡ partial.value (drop k (words file.now)) }
 {
     PendingPartialWithdrawal {
@@ -138,7 +138,7 @@ pub fn partial_at(file: &[u8], k: usize) -> PendingPartialWithdrawal
 
 pub fn consolidation_at(file: &[u8], k: usize) -> PendingConsolidation
     requires k_bound { k ≤ 2 ^ 39 }
-    requires file_value { consolidation.ok (drop k (words file.now)) ≡ true }
+    requires well_formed { consolidation.ok (drop k (words file.now)) ≡ true }
     ensures { plain_consolidation result ≡ consolidation.value (drop k (words file.now)) }
 {
     PendingConsolidation {

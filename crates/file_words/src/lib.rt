@@ -147,7 +147,7 @@ fn joined(low: u32, middle: u32, top: u32) -> u64
 
 pub fn number_at(file: &[u8], k: usize) -> u64
     requires k_bound { k ≤ 2 ^ 40 }
-    requires file_value { number.ok (drop k (words file.now)) ≡ true }
+    requires well_formed { number.ok (drop k (words file.now)) ≡ true }
     ensures { result ≡ number_at (words file.now) k }
 {
     let low = word_within(file, k);

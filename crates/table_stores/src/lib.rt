@@ -27,8 +27,8 @@ use records::registry::{credentials_place, put_words};
 
 fn store_words(file: &[u8], k: usize, validators: &mut [u64], n: usize)
     requires k_bound { k ≤ 2 ^ 39 }
-    requires file_value { validator.ok (drop k (words file.now)) ≡ true }
-    requires n_bound { n < validators_fit validators.old }
+    requires well_formed { validator.ok (drop k (words file.now)) ≡ true }
+    requires n_fits { n < validators_fit validators.old }
     ensures { validators.new
         ≡ put_validator validators.old n (validator.value (drop k (words file.now))) }
 {
@@ -54,8 +54,8 @@ fn store_words(file: &[u8], k: usize, validators: &mut [u64], n: usize)
 
 fn store_validator(file: &[u8], k: usize, identities: &mut [u8], validators: &mut [u64], n: usize)
     requires k_bound { k ≤ 2 ^ 39 }
-    requires file_value { validator.ok (drop k (words file.now)) ≡ true }
-    requires n_bound { (n < identities_fit identities.old) × (n < validators_fit validators.old) }
+    requires well_formed { validator.ok (drop k (words file.now)) ≡ true }
+    requires n_fits { (n < identities_fit identities.old) × (n < validators_fit validators.old) }
     ensures { ValidatorPushed n (validator.value (drop k (words file.now)))
         identities.old validators.old identities.new validators.new }
 {
@@ -70,7 +70,7 @@ fn store_validator(file: &[u8], k: usize, identities: &mut [u8], validators: &mu
 // n validators from word 86 on, as the first n of the tables.
 fn store_validators(file: &[u8], n: usize, identities: &mut [u8], validators: &mut [u64])
     requires readable { Readable validator 46 86 n (words file.now) }
-    requires n_bound { (n ≤ identities_fit identities.old) × (n ≤ validators_fit validators.old) }
+    requires n_fits { (n ≤ identities_fit identities.old) × (n ≤ validators_fit validators.old) }
     ensures { ValidatorsStored (words file.now) n identities.old validators.old
         identities.new validators.new }
 {
@@ -84,7 +84,7 @@ fn store_validators(file: &[u8], n: usize, identities: &mut [u8], validators: &m
 // n deposits from word k on.
 fn store_deposits(file: &[u8], k: usize, n: usize, deposits: &mut [u64])
     requires readable { Readable deposit 6 k n (words file.now) }
-    requires n_bound { n ≤ deposits_fit deposits.old }
+    requires n_fits { n ≤ deposits_fit deposits.old }
     ensures { DepositsStored (words file.now) k n deposits.old deposits.new }
 {
     let mut i: usize = 0;
@@ -97,7 +97,7 @@ fn store_deposits(file: &[u8], k: usize, n: usize, deposits: &mut [u64])
 // n partial withdrawals from word k on.
 fn store_partials(file: &[u8], k: usize, n: usize, partials: &mut [u64])
     requires readable { Readable partial 9 k n (words file.now) }
-    requires n_bound { n ≤ partials_fit partials.old }
+    requires n_fits { n ≤ partials_fit partials.old }
     ensures { PartialsStored (words file.now) k n partials.old partials.new }
 {
     let mut i: usize = 0;
@@ -110,7 +110,7 @@ fn store_partials(file: &[u8], k: usize, n: usize, partials: &mut [u64])
 // n consolidations from word k on.
 fn store_consolidations(file: &[u8], k: usize, n: usize, consolidations: &mut [u64])
     requires readable { Readable consolidation 6 k n (words file.now) }
-    requires n_bound { n ≤ consolidations_fit consolidations.old }
+    requires n_fits { n ≤ consolidations_fit consolidations.old }
     ensures { ConsolidationsStored (words file.now) k n
         consolidations.old consolidations.new }
 {
@@ -132,7 +132,7 @@ pub fn store_books(
     consolidations: &mut [u64],
 )
     requires good { Good (words file.now) }
-    requires scalars_value { scalars ≡ scalars_at (words file.now) }
+    requires scalars_read { scalars ≡ scalars_at (words file.now) }
     requires fits { Fits scalars
         (tables identities.old validators.old deposits.old partials.old consolidations.old) }
     ensures { BooksStored (words file.now) scalars

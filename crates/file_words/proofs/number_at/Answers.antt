@@ -5,17 +5,17 @@ use Rattle.file_words.proofs.number_at.Goals as goal
 
 pub word_within-low-requires : goal.word_within-low-requires
 word_within-low-requires c =
-    let inside : c.args.k + 3 ≤ length c.args.file.now / 4 = number_inside c.args.file.now c.args.k c.requires.file_value in
+    let inside : c.args.k + 3 ≤ length c.args.file.now / 4 = number_inside c.args.file.now c.args.k c.requires.well_formed in
     omega (arith, inside)
 
 pub word_within-middle-requires : goal.word_within-middle-requires
 word_within-middle-requires c =
-    let inside : c.args.k + 3 ≤ length c.args.file.now / 4 = number_inside c.args.file.now c.args.k c.requires.file_value in
+    let inside : c.args.k + 3 ≤ length c.args.file.now / 4 = number_inside c.args.file.now c.args.k c.requires.well_formed in
     omega (arith, inside)
 
 pub word_within-top-requires : goal.word_within-top-requires
 word_within-top-requires c =
-    let inside : c.args.k + 3 ≤ length c.args.file.now / 4 = number_inside c.args.file.now c.args.k c.requires.file_value in
+    let inside : c.args.k + 3 ≤ length c.args.file.now / 4 = number_inside c.args.file.now c.args.k c.requires.well_formed in
     omega (arith, inside)
 
 pub joined-requires : goal.joined-requires
