@@ -7,10 +7,14 @@ NAMES.json is what `rt check --generated DIR --old-names` writes for the crate: 
 name. A file that this does not read whole is left as it is, and said. Answers that say only `omega arith`, `search
 rules` or `cc` are left out, since the check tries as much by itself.
 """
+import importlib
 import json
 import os
 import re
 import sys
+
+sys.path.insert(0, os.path.dirname(os.path.abspath(__file__)))
+conditional = importlib.import_module("own_conditional")
 
 STOP = r"\s(){}\[\];,.λ`\"|∣"
 TOKEN = re.compile(rf"(?<![^{STOP}])([^{STOP}]+)")
@@ -199,6 +203,8 @@ def turn(path, crate, key, entry):
     for old, new in entry["args"]:
         if old.startswith(".args ."):
             text = re.sub(rf"{re.escape(old[6:])}(?![\w-])", new[6:], text)
+    if "if◌then◌else◌" in text:
+        text = conditional.turned(text)
     head, uses, decls = pieces(text)
     fn = Fn(entry)
     fname = key.split(".")[-2]

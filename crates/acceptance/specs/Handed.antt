@@ -1,7 +1,7 @@
 -- What is handed in: its tests by number, and the facts that the number 0 stands for.
 use Rattle.std.specs.Prelude.{◌≡◌, true, false, not, ◌&&◌, nat_le}
 use Rattle.std.proofs.Common.{arith}
-use Rattle.lists.specs.Base.{if◌then◌else◌}
+use Rattle.lists.specs.Base.{when◌then◌else◌}
 use Rattle.lists.specs.Laws.{passed, not_not}
 use Rattle.rules.specs.Types.{Settings, Books}
 use Rattle.rules.specs.Acceptance.{sound_settings, sound_books}
@@ -30,16 +30,16 @@ module _ (S : Settings) (b : Books) (r : Room) where
   -- ---- the number, from the tests
 
   pub settings_refused : sound_settings S ≡ false → 1 ≡ handed_refusal S b r
-  unfolding handed_refusal if◌then◌else◌
+  unfolding handed_refusal when◌then◌else◌
   settings_refused e = rw e
 
   pub room_refused : sound_settings S ≡ true → enough_room S r ≡ false → 3 ≡ handed_refusal S b r
-  unfolding handed_refusal if◌then◌else◌
+  unfolding handed_refusal when◌then◌else◌
   room_refused e f = rw (e, f)
 
   pub books_refused : sound_settings S ≡ true → enough_room S r ≡ true → sound_books S b ≡ false
       → 2 ≡ handed_refusal S b r
-  unfolding handed_refusal if◌then◌else◌
+  unfolding handed_refusal when◌then◌else◌
   books_refused e f g = rw (e, f, g)
 
   -- the three tests passed
@@ -49,7 +49,7 @@ module _ (S : Settings) (b : Books) (r : Room) where
     pub books : sound_books S b ≡ true
 
   pub none_refused : Accepted → 0 ≡ handed_refusal S b r
-  unfolding handed_refusal if◌then◌else◌
+  unfolding handed_refusal when◌then◌else◌
   none_refused a = rw (a.settings, a.room, a.books)
 
   -- ---- the tests, from the number

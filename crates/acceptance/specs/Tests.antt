@@ -1,6 +1,6 @@
 -- The tests of one record, and of the scalars, as one conjunction each; and the sum of records that are tested.
 use Rattle.std.specs.Prelude.{ℕ, ◌+◌, Bool, ◌&&◌, List, [], ◌∷◌, nat_le, nat_lt}
-use Rattle.lists.specs.Base.{if◌then◌else◌, all, total, every}
+use Rattle.lists.specs.Base.{when◌then◌else◌, all, total, every}
 use Rattle.rules.specs.Types.{BOUND, Settings, Validator, PendingPartialWithdrawal}
 use Rattle.rules.specs.Acceptance.{is_flag, epochs_within, partial_in, partial_epoch_within}
 use Rattle.primitives.specs.declared.Scalars.{Scalars}
@@ -33,4 +33,4 @@ scalars_within S s = all
 
 -- a sum with the numbers of some records added to it; BOUND + 1 where a record fails its test or the sum is over BOUND
 unfoldable pub tested_sum : {A : Type 0} → (A → Bool) → (A → ℕ) → ℕ → List A → ℕ
-tested_sum t w sum xs = if every t xs && nat_le (sum + total w xs) BOUND then sum + total w xs else BOUND + 1
+tested_sum t w sum xs = when every t xs && nat_le (sum + total w xs) BOUND then sum + total w xs else BOUND + 1

@@ -1,14 +1,14 @@
 -- The sum that the tests hand on: what accepted books hold, and 0 where what was handed in is refused.
 use Rattle.std.specs.Prelude.{◌≡◌, ℕ, ◌==◌, ◌≢◌}
 use Rattle.std.proofs.Common.{sym, ◌∙◌, eq-eqb, ne_eqb}
-use Rattle.lists.specs.Base.{if◌then◌else◌}
+use Rattle.lists.specs.Base.{when◌then◌else◌}
 use Rattle.lists.specs.Laws.{if_true, if_false}
 use Rattle.rules.specs.Types.{Settings, Books}
 use Rattle.rules.specs.Acceptance.{held}
 use Rattle.rules.specs.Calls.{Room, handed_refusal}
 
 unfoldable pub total_given : Settings → Books → Room → ℕ
-total_given S b r = if handed_refusal S b r == 0 then held b else 0
+total_given S b r = when handed_refusal S b r == 0 then held b else 0
 
 pub total_refused : (S : Settings) (b : Books) (r : Room) {n : ℕ} → n ≡ handed_refusal S b r → (n ≢ 0)
     → 0 ≡ total_given S b r

@@ -2,7 +2,7 @@
 use Rattle.std.specs.Prelude.{◌≡◌, refl, Bool, true, false, List, [], ℕ, length, ltb, eqb}
 use Rattle.std.proofs.Common.{sym, ◌∙◌, eqb-true}
 use Rattle.std.proofs.lemmas.Bool.{eqb-false}
-use Rattle.lists.specs.Base.{if◌then◌else◌}
+use Rattle.lists.specs.Base.{when◌then◌else◌}
 use Rattle.rules.specs.Calls.{run}
 use Rattle.file_format.specs.File.{write_books}
 use Rattle.file_format.specs.Answers.{over}
@@ -16,7 +16,7 @@ closing_of (accepted S b cs) = write_books S (run S b cs)
 -- the number of the refusal, then 61 where the buffer is shorter than the file
 abbrev pub closing_number : Files → (space : ℕ) → ℕ
 closing_number (refused n) space = n
-closing_number (accepted S b cs) space = if ltb space (length (write_books S (run S b cs))) then 61 else 0
+closing_number (accepted S b cs) space = when ltb space (length (write_books S (run S b cs))) then 61 else 0
 
 unfoldable pub closing : (opening calls : List ℕ) → List ℕ
 closing opening calls = closing_of (files opening calls)

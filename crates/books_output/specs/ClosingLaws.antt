@@ -5,7 +5,7 @@ use Rattle.std.proofs.Common.{◌∙◌, arith, length-append, length-take-le, e
 use Rattle.std.proofs.Math.ListN.{length}
 use Rattle.std.proofs.Math.Dec.{ltb}
 use Rattle.std.proofs.lemmas.Bool.{eqb-false}
-use Rattle.lists.specs.Base.{if◌then◌else◌}
+use Rattle.lists.specs.Base.{when◌then◌else◌}
 use Rattle.rules.specs.Types as rule
 use Rattle.rules.specs.Calls.{Room, handed_refusal}
 use Rattle.primitives.specs.Settings.{settings_of}
@@ -20,8 +20,8 @@ use Rattle.books_output.specs.Carried.{CarriedFiles}
 
 -- accepted books are refused for the buffer alone
 write_accepted : (S : rule.Settings) (b : rule.Books) (r : Room) (space : ℕ) → handed_refusal S b r ≡ 0
-    → write_answer S b r space ≡ (if ltb space (length (write_books S b)) then 61 else 0)
-unfolding write_answer if◌then◌else◌
+    → write_answer S b r space ≡ (when ltb space (length (write_books S b)) then 61 else 0)
+unfolding write_answer when◌then◌else◌
 write_accepted S b r space h = rw h
 
 module _ {opening calls : List ℕ} {u : Tables} {results : List ℕ} {c : Closing} {before : List ℕ}
@@ -47,7 +47,7 @@ module _ {opening calls : List ℕ} {u : Tables} {results : List ℕ} {c : Closi
         number =
             w.number
             ∙ write_accepted S (books_of c.scalars u) (room_of u) (length before) d.accepted
-            ∙ ap (λ b. if ltb (length before) (length (write_books S b)) then 61 else 0) d.books
+            ∙ ap (λ b. when ltb (length before) (length (write_books S b)) then 61 else 0) d.books
             ∙ sym (ap (λ f. closing_number f (length before)) d.files);
         done = λ e.
             let y = w.done e in

@@ -5,7 +5,7 @@ use Rattle.std.proofs.Math.Path.{ap}
 use Rattle.std.proofs.Math.Option.{Option, some, none}
 use native.Mathlib.Omega.{arith}
 use Rattle.std.proofs.lemmas.List.{length-map}
-use Rattle.lists.specs.Base.{if◌then◌else◌}
+use Rattle.lists.specs.Base.{when◌then◌else◌}
 use Rattle.lists.specs.Laws.{if_true, if_false}
 use Rattle.rules.specs.Types as rule
 use Rattle.rules.specs.Calls.{Operation, handed_refusal, run}
@@ -61,13 +61,13 @@ program_buffers ids vs ds ps cs i v d p c = sym (λ j. record {
 
 opened_refused : (o : Option (rule.Settings × rule.Books)) (calls : Option (List Operation)) {n : ℕ}
     → n ≡ opened_answer program_room o → (n ≡ 0 → ⊥) → opened o calls ≡ refused n
-unfolding if◌then◌else◌
+unfolding when◌then◌else◌
 opened_refused none calls e z = ap refused (sym e)
 opened_refused (some p) calls {n} e z = rw (← e) (rw (ne_eqb n 0 z))
 
 opened_accepted : (S : rule.Settings) (b : rule.Books) (calls : Option (List Operation))
     → handed_refusal S b program_room ≡ 0 → opened (some (S, b)) calls ≡ with_calls S b calls
-unfolding if◌then◌else◌
+unfolding when◌then◌else◌
 opened_accepted S b calls h = rw h
 
 pub opening_too_long : (bs : List ℕ) (t : Tables) {r : Opened} → room_of t ≡ program_room → 2 ^ 16 < length bs
@@ -143,7 +143,7 @@ module _ {bs : List ℕ} {u : Tables} {o : Opened} (x : OpeningRead bs u o) (z :
   same_program_calls os = ap (λ m. map (λ op. record { room = m; operation = op }) os) x.room
 
   listed : (space : ℕ) → carry_out_answer S b (room_of u) calls space ≡ listed_answer space (read_calls calls)
-  unfolding carry_out_answer if◌then◌else◌
+  unfolding carry_out_answer when◌then◌else◌
   listed space =
       let h : handed_refusal S b (room_of u) ≡ 0 = ap (handed_refusal S b) x.room ∙ x.accepted z in
       rw h

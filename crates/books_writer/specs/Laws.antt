@@ -6,7 +6,7 @@ use Rattle.std.proofs.Math.Option.{some}
 use native.Mathlib.Omega.{arith}
 use Rattle.std.proofs.Math.ListN.{length}
 use borrow.Author.Tests.{lt-ltb, le-ltb, ne_eqb}
-use Rattle.lists.specs.Base.{if◌then◌else◌, every}
+use Rattle.lists.specs.Base.{when◌then◌else◌, every}
 use Rattle.rules.specs.Types.{Settings}
 use Rattle.rules.specs.Calls.{handed_refusal}
 use Rattle.primitives.specs.declared.Scalars.{Scalars}
@@ -155,7 +155,7 @@ module _ (S : Settings) (s : Scalars) (t : Tables) where
       }
 
   pub handed_refused : (out : List ℕ) (n : ℕ) → n ≡ handed → (n ≡ 0 → ⊥) → BooksWritten S s t out out n 0
-  unfolding write_answer if◌then◌else◌
+  unfolding write_answer when◌then◌else◌
   handed_refused out n e z = record {
     number = rw (← e) (rw (ne_eqb n 0 z));
     done = λ q. absurd (z q);
@@ -164,7 +164,7 @@ module _ (S : Settings) (s : Scalars) (t : Tables) where
   }
 
   pub buffer_short : (out : List ℕ) → handed ≡ 0 → length out < file_length s → BooksWritten S s t out out 61 0
-  unfolding write_answer if◌then◌else◌
+  unfolding write_answer when◌then◌else◌
   buffer_short out e h =
       let size = length (write_books S (books_of s t)) in
       let q : length out < size = omega (arith, books_length S s t (ready e)) in
@@ -191,7 +191,7 @@ module _ (S : Settings) (s : Scalars) (t : Tables) where
   pub all_written : (out last : List ℕ) → handed ≡ 0 → file_length s ≤ length out
       → every is_byte t.identities ≡ true → s.deposit_receipts_start_index < 2 ^ 64
       → last ≡ over (write_books S (books_of s t)) out → BooksWritten S s t out last 0 (file_length s)
-  unfolding write_answer if◌then◌else◌
+  unfolding write_answer when◌then◌else◌
   all_written out last e h bytes start f =
       let size = length (write_books S (books_of s t)) in
       let l = books_length S s t (ready e) in

@@ -1,18 +1,18 @@
 -- Chains of tests: what the first that fails gives; and tests in other forms.
 use Rattle.std.specs.Prelude.{◌≡◌, refl, Bool, true, false, not, ℕ, eqb}
 use Rattle.std.proofs.Common.{ap, arith, eq-eqb, ne_eqb}
-use Rattle.lists.specs.Base.{if◌then◌else◌}
+use Rattle.lists.specs.Base.{when◌then◌else◌}
 use Rattle.result_sizes.specs.Size.{size_number}
 
 module _ {A : Type 0} where
   -- this test failed
-  pub fails : (t : Bool) {x : A} (rest : A) → t ≡ true → x ≡ (if t then x else rest)
-  unfolding if◌then◌else◌
+  pub fails : (t : Bool) {x : A} (rest : A) → t ≡ true → x ≡ (when t then x else rest)
+  unfolding when◌then◌else◌
   fails t rest e = rw e
 
   -- this test passed, and the rest came to y
-  pub passes : (t : Bool) (x : A) {rest y : A} → t ≡ false → y ≡ rest → y ≡ (if t then x else rest)
-  unfolding if◌then◌else◌
+  pub passes : (t : Bool) (x : A) {rest y : A} → t ≡ false → y ≡ rest → y ≡ (when t then x else rest)
+  unfolding when◌then◌else◌
   passes t x e h = rw e h
 
 pub differs : (x y : ℕ) → (x ≡ y → ⊥) → not (eqb x y) ≡ true

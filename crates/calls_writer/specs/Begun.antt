@@ -1,7 +1,7 @@
 -- The file of no calls.
 use Rattle.std.specs.Prelude.{◌≡◌, refl, List, [], ◌∷◌, ℕ, ◌≤◌, ◌<◌, length, take, ltb}
 use Rattle.std.proofs.Common.{sym, ap, ◌∙◌, arith, lt-ltb, le-ltb}
-use Rattle.lists.specs.Base.{if◌then◌else◌}
+use Rattle.lists.specs.Base.{when◌then◌else◌}
 use Rattle.lists.specs.Laws.{if_true, if_false}
 use Rattle.file_format.specs.Words.{word, calls_head, end_word, with_end, words}
 use Rattle.file_format.specs.Fields.{many}
@@ -15,9 +15,9 @@ none_length : length (write_calls []) ≡ 12
 unfolding write_file calls_format many
 none_length = refl
 
-begin_is : (out : List ℕ) → begin_number out ≡ (if ltb (length out) 12 then 61 else 0)
+begin_is : (out : List ℕ) → begin_number out ≡ (when ltb (length out) 12 then 61 else 0)
 unfolding begin_number
-begin_is out = ap (λ n. if ltb (length out) n then 61 else 0) none_length
+begin_is out = ap (λ n. when ltb (length out) n then 61 else 0) none_length
 
 pub begun_short : (out : List ℕ) → length out < 12 → Begun out out 61 0
 begun_short out h = record {

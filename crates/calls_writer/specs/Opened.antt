@@ -4,7 +4,7 @@ use Rattle.std.proofs.Math.Path.{sym, ap}
 use Rattle.std.proofs.Common.{◌∙◌, arith, length-take-le, lt-ltb, le-ltb}
 use Rattle.std.proofs.Math.Option.{Option, some, none}
 use Rattle.std.proofs.lemmas.Bool.{not-true, not-false}
-use Rattle.lists.specs.Base.{if◌then◌else◌, every}
+use Rattle.lists.specs.Base.{when◌then◌else◌, every}
 use Rattle.lists.specs.Laws.{if_true, if_false}
 use Rattle.rules.specs.Calls.{Operation}
 use Rattle.file_format.specs.Words.{is_byte, words}
@@ -53,11 +53,11 @@ module _ (o : Operation) (size : ℕ) (out : List ℕ) where
       pub more_size : length (write_calls (one_more os o)) ≡ size + w * 4
       more_size = omega (arith, more_file_length os o, f.words, file_size os size out h)
 
-      writable_number : add_number out size o ≡ (if ltb (length out) (size + w * 4) then 61 else 0)
+      writable_number : add_number out size o ≡ (when ltb (length out) (size + w * 4) then 61 else 0)
       writable_number =
           read_number
           ∙ if_false _ _ _ (ap not (more_writable os o h.writable f.domain g))
-          ∙ ap (λ n. if ltb (length out) n then 61 else 0) more_size
+          ∙ ap (λ n. when ltb (length out) n then 61 else 0) more_size
 
 -- the part of the buffer that is said to be the file
 pub part_length : (size : ℕ) (out : List ℕ) → size ≤ length out → size ≡ length (take size out)
@@ -145,7 +145,7 @@ never_answer : (space : ℕ) (o : Operation) → call.domain o ≡ false → (r 
 never_answer space o e none = refl
 never_answer space o e (some os) = if_true _ _ _ (ap not (never_writable os o e))
 
-either : (t : Bool) (x y : ℕ) → y ≡ x → (if t then x else y) ≡ x
+either : (t : Bool) (x y : ℕ) → y ≡ x → (when t then x else y) ≡ x
 either true x y e = if_true true x y refl
 either false x y e = if_false false x y refl ∙ e
 

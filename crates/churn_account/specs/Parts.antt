@@ -5,7 +5,7 @@ use Rattle.std.proofs.Common.{sym, ap, ◌∙◌, mod-lt, suc-mul, mul_comm, add
 use Prim.Native.Nat.{ℕ, ◌+◌, ◌-◌, ◌*◌, ◌/◌, ◌%◌, ◌≤◌, ◌<◌, max}
 use Rattle.std.proofs.Math.Nat.{div-add-mod}
 use native.Mathlib.Omega.{arith}
-use Rattle.lists.specs.Base.{if◌then◌else◌}
+use Rattle.lists.specs.Base.{when◌then◌else◌}
 use Rattle.rules.specs.Helpers as rule
 use Rattle.rules.specs.Helpers.{assign_epoch}
 
@@ -13,12 +13,12 @@ use Rattle.rules.specs.Helpers.{assign_epoch}
 unfoldable pub start_account : (left earliest_epoch activation_exit_epoch churn : ℕ) → rule.Assignment
 start_account left earliest_epoch activation_exit_epoch churn =
     let start = max earliest_epoch activation_exit_epoch in
-    record { left = if ltb earliest_epoch start then churn else left; epoch = start }
+    record { left = when ltb earliest_epoch start then churn else left; epoch = start }
 
 -- whole epochs whose churns pay for what the amount is above what is available
 unfoldable pub additional_epochs : (available churn amount : ℕ) → ℕ
 additional_epochs available churn amount =
-    if ltb available amount then (amount - available - 1) / churn + 1 else 0
+    when ltb available amount then (amount - available - 1) / churn + 1 else 0
 
 -- an assignment from its parts
 abbrev pub assigned_from : rule.Assignment → (churn amount : ℕ) → rule.Assignment
@@ -30,7 +30,7 @@ module _ (left earliest_epoch activation_exit_epoch churn : ℕ) where
   pub start_behind : earliest_epoch < activation_exit_epoch
       → record { left = churn; epoch = activation_exit_epoch }
       ≡ start_account left earliest_epoch activation_exit_epoch churn
-  unfolding start_account if◌then◌else◌
+  unfolding start_account when◌then◌else◌
   start_behind h =
       let e : max earliest_epoch activation_exit_epoch ≡ activation_exit_epoch = omega arith in
       rw e (rw (lt-ltb earliest_epoch activation_exit_epoch h))
@@ -38,7 +38,7 @@ module _ (left earliest_epoch activation_exit_epoch churn : ℕ) where
   pub start_kept : activation_exit_epoch ≤ earliest_epoch
       → record { left = left; epoch = earliest_epoch }
       ≡ start_account left earliest_epoch activation_exit_epoch churn
-  unfolding start_account if◌then◌else◌
+  unfolding start_account when◌then◌else◌
   start_kept h =
       let e : max earliest_epoch activation_exit_epoch ≡ earliest_epoch = omega arith in
       rw e (rw (le-ltb earliest_epoch earliest_epoch (omega arith)))
@@ -63,11 +63,11 @@ module _ (left earliest_epoch activation_exit_epoch churn : ℕ) where
 module _ (available churn amount : ℕ) where
   pub additional_some : available < amount
       → (amount - available - 1) / churn + 1 ≡ additional_epochs available churn amount
-  unfolding additional_epochs if◌then◌else◌
+  unfolding additional_epochs when◌then◌else◌
   additional_some h = rw (lt-ltb available amount h)
 
   pub additional_none : amount ≤ available → 0 ≡ additional_epochs available churn amount
-  unfolding additional_epochs if◌then◌else◌
+  unfolding additional_epochs when◌then◌else◌
   additional_none h = rw (le-ltb available amount h)
 
   -- what is left of the last epoch's churn, by a remainder

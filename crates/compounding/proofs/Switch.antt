@@ -6,7 +6,7 @@ use native.Mathlib.Nat.{add-zero}
 use lib.ListN.{length}
 use lib.Dec.{eqb}
 use borrow.Author.Tests.{eq-eqb, ne_eqb, lt-ltb, le-ltb}
-use Rattle.lists.specs.Base.{if◌then◌else◌, adjust}
+use Rattle.lists.specs.Base.{when◌then◌else◌, adjust}
 use Rattle.lists.specs.Laws.{if_true, if_false}
 use Rattle.rules.specs.Types.{Settings, Validator}
 use Rattle.rules.specs.Update.{with_balance, with_validators}
@@ -47,7 +47,7 @@ module _ (S : Settings) (i : ℕ) (s : Scalars) (vs ds : List ℕ) (known : i < 
       → (ids ps cs : List ℕ)
       → Stepped (queue_excess_active_balance S i) s (tables ids vs ds ps cs) (tables ids new_vs new_ds ps cs)
       (with_deposits s (s.deposits + 1))
-  unfolding queue_excess_active_balance books_of if◌then◌else◌
+  unfolding queue_excess_active_balance books_of when◌then◌else◌
   queued h new_vs new_ds v d ids ps cs = record {
     books =
         simp (

@@ -5,7 +5,7 @@ use Rattle.std.proofs.Math.Bool.{true, false}
 use mathlib.Core.List.{[], ◌∷◌}
 use Rattle.std.proofs.Common.{arith, ltb-true, ltb-false, lt-ltb, le-ltb}
 use Rattle.std.proofs.Math.ListN.{length}
-use Rattle.lists.specs.Base.{if◌then◌else◌}
+use Rattle.lists.specs.Base.{when◌then◌else◌}
 use Rattle.lists.specs.Laws.{if_true, if_false}
 use Rattle.rules.specs.Types.{Settings, PendingBalanceDeposit, Books}
 use Rattle.rules.specs.Helpers.{at, has_eth1_withdrawal_credential}
@@ -13,7 +13,7 @@ use Rattle.rules.specs.Counting.{excess_entry}
 
 -- how many queue_excess_active_balance queues at this balance
 abbrev pub excess_entry_count : (minimum balance : ℕ) → ℕ
-excess_entry_count minimum balance = if ltb minimum balance then 1 else 0
+excess_entry_count minimum balance = when ltb minimum balance then 1 else 0
 
 pub entries_low : (minimum balance : ℕ) → balance ≤ minimum → excess_entry_count minimum balance ≡ 0
 entries_low minimum balance h = if_false _ _ _ (le-ltb minimum balance h)
@@ -31,23 +31,23 @@ excess_some least balance = go (ltb least balance) refl
 
 module _ (S : Settings) (i : ℕ) (b : Books) where
   pub entries_none : has_eth1_withdrawal_credential (at b.validators i) ≡ false → length (excess_entry S i b) ≡ 0
-  unfolding excess_entry if◌then◌else◌
+  unfolding excess_entry when◌then◌else◌
   entries_none e = rw e
 
   pub entries_some : has_eth1_withdrawal_credential (at b.validators i) ≡ true
       → length (excess_entry S i b) ≡ excess_entry_count S.min_activation_balance (at b.validators i).balance
-  unfolding excess_entry if◌then◌else◌
+  unfolding excess_entry when◌then◌else◌
   entries_some e =
       rw (e, excess_some S.min_activation_balance (at b.validators i).balance)
       (go (ltb S.min_activation_balance (at b.validators i).balance))
     where
       go : (t : Bool)
           → length {A = PendingBalanceDeposit}
-          (if t then record {
+          (when t then record {
             index =
                 i;
             amount = (at b.validators i).balance - S.min_activation_balance;
           } ∷ [] else [])
-          ≡ (if t then 1 else 0)
+          ≡ (when t then 1 else 0)
       go true = refl
       go false = refl

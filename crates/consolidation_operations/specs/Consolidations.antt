@@ -4,7 +4,7 @@ use Rattle.std.proofs.Math.Path.{refl}
 use Rattle.std.proofs.Common.{sym, ap, ◌∙◌, arith}
 use Rattle.std.proofs.Math.ListN.{length}
 use borrow.Author.Tests.{ltb-true, leb-false, le-leb, lt-leb}
-use Rattle.lists.specs.Base.{if◌then◌else◌, adjust, same_bytes}
+use Rattle.lists.specs.Base.{when◌then◌else◌, adjust, same_bytes}
 use Rattle.lists.specs.Laws.{passed, not_not}
 use Rattle.rules.specs.Types.{FAR, BOUND, Settings, Validator, PendingConsolidation, Books}
 use Rattle.rules.specs.Update.{with_exit, with_consolidation_churn, with_validators, with_pending_consolidations}
@@ -30,25 +30,25 @@ use Rattle.helpers.specs.Exits.{consolidation_assignment, consolidation_by_churn
 -- those that look at source and target as records
 unfoldable pub pair_refusal : (current_epoch : ℕ) (source target : Validator) (epoch : ℕ) → Bool → ℕ
 pair_refusal current_epoch source target epoch valid =
-    if not (is_active_validator current_epoch source) then 11
-    else if not (is_active_validator current_epoch target) then 11
-    else if not (eqb source.exit_epoch FAR) then 12
-    else if not (eqb target.exit_epoch FAR) then 12
-    else if ltb current_epoch epoch then 13
-    else if not (has_execution_withdrawal_credential source) then 23
-    else if not (has_execution_withdrawal_credential target) then 23
-    else if not (same_bytes (withdrawal_address source) (withdrawal_address target)) then 24
-    else if not valid then 16
+    when not (is_active_validator current_epoch source) then 11
+    else when not (is_active_validator current_epoch target) then 11
+    else when not (eqb source.exit_epoch FAR) then 12
+    else when not (eqb target.exit_epoch FAR) then 12
+    else when ltb current_epoch epoch then 13
+    else when not (has_execution_withdrawal_credential source) then 23
+    else when not (has_execution_withdrawal_credential target) then 23
+    else when not (same_bytes (withdrawal_address source) (withdrawal_address target)) then 24
+    else when not valid then 16
     else 0
 
 -- those before them, of a queue of so many entries and so many validators
 unfoldable pub index_refusal : Settings → (queued churn validators source target rest : ℕ) → ℕ
 index_refusal S queued churn validators source target rest =
-    if leb S.pending_consolidations_limit queued then 20
-    else if leb churn S.min_activation_balance then 21
-    else if eqb source target then 22
-    else if not (ltb source validators) then 10
-    else if not (ltb target validators) then 10
+    when leb S.pending_consolidations_limit queued then 20
+    else when leb churn S.min_activation_balance then 21
+    else when eqb source target then 22
+    else when not (ltb source validators) then 10
+    else when not (ltb target validators) then 10
     else rest
 
 module _ (S : Settings) (s : Scalars) (t : Tables) (source target epoch : ℕ) (valid : Bool) where

@@ -1,7 +1,7 @@
 -- The cases of the total's answer.
 use Rattle.std.specs.Prelude.{◌≡◌, refl, ℕ, eqb}
 use Rattle.std.proofs.Common.{ap, sym, ◌∙◌}
-use Rattle.lists.specs.Base.{if◌then◌else◌}
+use Rattle.lists.specs.Base.{when◌then◌else◌}
 use Rattle.lists.specs.Laws.{by_test}
 use Rattle.rules.specs.Types.{Settings, Books}
 use Rattle.rules.specs.Calls.{Room, handed_refusal}
@@ -26,13 +26,13 @@ total_sum ShortBuffer = 0
 
 total_of : (number sum : ℕ) → Total
 total_of number sum =
-    if eqb number 0 then Held (record { 0 = sum })
-    else if eqb number 1 then UnsoundSettings
-    else if eqb number 2 then UnsoundBooks
+    when eqb number 0 then Held (record { 0 = sum })
+    else when eqb number 1 then UnsoundSettings
+    else when eqb number 2 then UnsoundBooks
     else ShortBuffer
 
 total_told : (t : Total) → total_of (total_number t) (total_sum t) ≡ t
-unfolding total_of if◌then◌else◌
+unfolding total_of when◌then◌else◌
 total_told (Held sum) = refl
 total_told UnsoundSettings = refl
 total_told UnsoundBooks = refl

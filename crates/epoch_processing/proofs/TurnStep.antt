@@ -6,7 +6,7 @@ use Prim.Native.Nat.{◌+◌, ◌≤◌}
 use native.Mathlib.Omega.{arith}
 use lib.ListN.{length, length-append}
 use borrow.Author.Tests.{le-leb}
-use Rattle.lists.specs.Base.{if◌then◌else◌}
+use Rattle.lists.specs.Base.{when◌then◌else◌}
 use Rattle.rules.specs.Types.{Settings, Books, PendingPartialWithdrawal}
 use Rattle.rules.specs.Update as update
 use Rattle.rules.specs.EpochProcessing.{process_pending_balance_deposits, process_pending_consolidations}
@@ -33,7 +33,7 @@ module _ (S : Settings) (b : Books) (r : Room) (settings : sound_settings S ≡ 
     (books : sound_books S b ≡ true) where
   result_sound : (op : Operation) → own_refusal S b op ≡ 0 → size_refusal S (result S b op) ≡ 0
       → sound_books S (result S b op) ≡ true
-  unfolding after done answer handed_refusal if◌then◌else◌
+  unfolding after done answer handed_refusal when◌then◌else◌
   result_sound op own size =
       let c : Call = record { room = r; operation = op } in
       let handed : handed_refusal S b r ≡ 0 = rw (settings, room, books) in

@@ -9,7 +9,7 @@ use native.Mathlib.Omega.{arith}
 use lib.ListN.{length, get_or}
 use lib.Dec.{ltb}
 use borrow.Author.Tests.{lt-ltb, le-ltb}
-use Rattle.lists.specs.Base.{if◌then◌else◌, adjust}
+use Rattle.lists.specs.Base.{when◌then◌else◌, adjust}
 use Rattle.lists.specs.Laws.{adjust_same}
 use Rattle.tables.specs.Rows.{rows, length_rows, get_d_rows, rows_adjust}
 use Rattle.rules.specs.Types.{Settings, Validator}
@@ -48,7 +48,7 @@ module _ (S : Settings) (i : ℕ) (ids vs : List ℕ) where
   v = validator_at ids vs i
 
   pub not_updated : needs_update S v ≡ false → Updated S i ids vs vs
-  unfolding updated if◌then◌else◌
+  unfolding updated when◌then◌else◌
   not_updated e = record {
     validators = λ n h.
         rows_adjust n (validator_at ids vs) (validator_at ids vs) i (updated S) (λ j p q. refl) (λ p. rw e);
@@ -59,7 +59,7 @@ module _ (S : Settings) (i : ℕ) (ids vs : List ℕ) where
       → x ≡ min (balance_at vs i - balance_at vs i % S.effective_balance_increment)
       (get_validator_max_effective_balance S v)
       → (new : List ℕ) → ValidatorAdjusted i (with_effective_balance x) vs new → Updated S i ids vs new
-  unfolding updated if◌then◌else◌
+  unfolding updated when◌then◌else◌
   updated_at e x q new a = record {
     validators = λ n h.
         a.validators ids n

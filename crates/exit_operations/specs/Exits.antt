@@ -4,7 +4,7 @@ use Rattle.std.proofs.Math.Path.{refl, sym, ap}
 use Rattle.std.proofs.Common.{◌∙◌, arith}
 use Rattle.std.proofs.Math.Bool.{true, not}
 use borrow.Author.Tests.{ltb-true, eqb-true, lt-ltb, le-ltb, le-leb, lt-leb}
-use Rattle.lists.specs.Base.{if◌then◌else◌}
+use Rattle.lists.specs.Base.{when◌then◌else◌}
 use Rattle.lists.specs.Laws.{passed, not_not}
 use Rattle.rules.specs.Types.{FAR, BOUND, Settings, Validator}
 use Rattle.rules.specs.Helpers.{at, count, Assignment, is_active_validator, get_pending_balance_to_withdraw}
@@ -26,12 +26,12 @@ use Rattle.call_answers.specs.Tests.{fails, passes}
 -- those behind the first, of the validator and of what its partial withdrawals owe it
 unfoldable pub exit_tests : Settings → (current_epoch : ℕ) → Validator → (pending epoch : ℕ) → Bool → ℕ
 exit_tests S current_epoch v pending epoch valid =
-    if not (is_active_validator current_epoch v) then 11
-    else if not (eqb v.exit_epoch FAR) then 12
-    else if ltb current_epoch epoch then 13
-    else if ltb current_epoch (v.activation_epoch + S.shard_committee_period) then 14
-    else if not (eqb pending 0) then 15
-    else if not valid then 16
+    when not (is_active_validator current_epoch v) then 11
+    else when not (eqb v.exit_epoch FAR) then 12
+    else when ltb current_epoch epoch then 13
+    else when ltb current_epoch (v.activation_epoch + S.shard_committee_period) then 14
+    else when not (eqb pending 0) then 15
+    else when not valid then 16
     else 0
 
 module _ (S : Settings) (s : Scalars) (t : Tables) (i epoch : ℕ) (valid : Bool) where
@@ -40,7 +40,7 @@ module _ (S : Settings) (s : Scalars) (t : Tables) (i epoch : ℕ) (valid : Bool
   exit_unknown h = fails _ _ (ap not (le-ltb i (count (books_of s t)) (omega (arith, validators_count s t))))
 
   by_record : voluntary_exit_refusal S (books_of s t) i epoch valid
-      ≡ (if not (ltb i (count (books_of s t))) then 10
+      ≡ (when not (ltb i (count (books_of s t))) then 10
       else exit_tests S s.epoch.0 (at (books_of s t).validators i)
       (get_pending_balance_to_withdraw (books_of s t) i)
       epoch valid)

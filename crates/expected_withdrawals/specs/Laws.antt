@@ -11,7 +11,7 @@ use native.Mathlib.Omega.{arith}
 use Rattle.std.proofs.Math.ListN.{length}
 use Rattle.std.proofs.Math.Dec.{ltb, leb, eqb}
 use borrow.Author.Tests.{lt-ltb, le-ltb, ltb-true, eqb-true}
-use Rattle.lists.specs.Base.{if◌then◌else◌}
+use Rattle.lists.specs.Base.{when◌then◌else◌}
 use Rattle.lists.specs.Laws.{both, and_false}
 use Rattle.rules.specs.Types as rule
 use Rattle.rules.specs.Types.{FAR}
@@ -35,17 +35,17 @@ neither false t e = (refl, e)
 
 module _ (S : rule.Settings) (epoch : ℕ) (v : rule.Validator) where
   pub full_amount : is_fully_withdrawable_validator epoch v ≡ true → v.balance ≡ sweep_amount S epoch v
-  unfolding sweep_amount if◌then◌else◌
+  unfolding sweep_amount when◌then◌else◌
   full_amount f = rw f
 
   module _ (f : is_fully_withdrawable_validator epoch v ≡ false) where
     pub partial_taken : is_partially_withdrawable_validator S v ≡ true
         → v.balance - get_validator_max_effective_balance S v ≡ sweep_amount S epoch v
-    unfolding sweep_amount if◌then◌else◌
+    unfolding sweep_amount when◌then◌else◌
     partial_taken p = rw f (rw p)
 
     pub none_taken : is_partially_withdrawable_validator S v ≡ false → 0 ≡ sweep_amount S epoch v
-    unfolding sweep_amount if◌then◌else◌
+    unfolding sweep_amount when◌then◌else◌
     none_taken p = rw f (rw p)
 
   pub partial_room : is_partially_withdrawable_validator S v ≡ true
@@ -102,23 +102,23 @@ module _ (S : rule.Settings) (v : rule.Validator) where
     pub partial_listed : {r : ExpectedWithdrawals} {amount : ℕ}
         → is_partial_payable S v ≡ true → amount ≡ partial_amount S p v
         → r ≡ pushed e (withdrawal_of first e.count p.index v amount) → r ≡ list_partial S first p v e
-    unfolding list_partial if◌then◌else◌
+    unfolding list_partial when◌then◌else◌
     partial_listed t a q = rw t (q ∙ ap (λ x. pushed e (withdrawal_of first e.count p.index v x)) a)
 
     pub partial_passed : is_partial_payable S v ≡ false → e ≡ list_partial S first p v e
-    unfolding list_partial if◌then◌else◌
+    unfolding list_partial when◌then◌else◌
     partial_passed t = rw t
 
   module _ (epoch first i : ℕ) (e : ExpectedWithdrawals) {amount : ℕ} (a : amount ≡ sweep_amount S epoch v) where
     pub validator_listed : {r : ExpectedWithdrawals} → 0 < amount
         → r ≡ pushed e (withdrawal_of first e.count i v amount) → r ≡ list_validator S epoch first i v e
-    unfolding list_validator if◌then◌else◌
+    unfolding list_validator when◌then◌else◌
     validator_listed h q =
         let t : ltb 0 (sweep_amount S epoch v) ≡ true = lt-ltb _ _ (rw a at h) in
         rw t (q ∙ ap (λ x. pushed e (withdrawal_of first e.count i v x)) a)
 
     pub validator_passed : amount ≤ 0 → e ≡ list_validator S epoch first i v e
-    unfolding list_validator if◌then◌else◌
+    unfolding list_validator when◌then◌else◌
     validator_passed h =
         let t : ltb 0 (sweep_amount S epoch v) ≡ false = le-ltb _ _ (rw a at h) in
         rw t
@@ -148,12 +148,12 @@ module _ (S : rule.Settings) (b : rule.Books) where
     room = omega arith
 
     pub partials_stop : b.epoch < p.withdrawable_epoch → list_partials S b (p ∷ ps) e ≡ e
-    unfolding list_partials pushes if◌then◌else◌
+    unfolding list_partials pushes when◌then◌else◌
     partials_stop k = rw room (simp (lt-ltb _ _ k))
 
     pub partials_step : (v : rule.Validator) → p.withdrawable_epoch ≤ b.epoch → v ≡ at b.validators p.index
         → list_partials S b (p ∷ ps) e ≡ list_partials S b ps (list_partial S b.next_withdrawal_index p v e)
-    unfolding list_partials pushes if◌then◌else◌ list_partial
+    unfolding list_partials pushes when◌then◌else◌ list_partial
     partials_step v k q = go (is_partial_payable S v) refl
       where
         go : (t : Bool) → is_partial_payable S v ≡ t
@@ -179,7 +179,7 @@ module _ (S : rule.Settings) (b : rule.Books) where
       → e.count < S.max_withdrawals_per_payload → v ≡ at b.validators i
       → list_swept S b (suc bound) i e
       ≡ list_swept S b bound ((i + 1) % count b) (list_validator S b.epoch b.next_withdrawal_index i v e)
-  unfolding list_swept pushes if◌then◌else◌ list_validator
+  unfolding list_swept pushes when◌then◌else◌ list_validator
   sweep_step bound i v e h q = go (ltb 0 (sweep_amount S b.epoch v)) refl
     where
       more : S.max_withdrawals_per_payload - e.count ≡ suc (S.max_withdrawals_per_payload - (e.count + 1))

@@ -1,6 +1,6 @@
 -- The expected withdrawals listed one by one, as the code's loops list them.
 use Rattle.std.specs.Prelude.{Bool, ◌||◌, List, [], ◌∷◌, ℕ, ◌+◌, ◌-◌, min, set, leb, ltb}
-use Rattle.lists.specs.Base.{if◌then◌else◌}
+use Rattle.lists.specs.Base.{when◌then◌else◌}
 use Rattle.rules.specs.Types as rule
 use Rattle.rules.specs.Helpers.{withdrawal_address}
 use Rattle.rules.specs.BlockProcessing.{is_partial_payable, sweep_amount, partial_withdrawals, sweep_withdrawals}
@@ -45,7 +45,7 @@ partial_amount S p v = min (v.balance - S.min_activation_balance) p.amount
 unfoldable pub list_partial : rule.Settings → (first : ℕ) → rule.PendingPartialWithdrawal → rule.Validator
     → ExpectedWithdrawals → ExpectedWithdrawals
 list_partial S first p v e =
-    if is_partial_payable S v
+    when is_partial_payable S v
     then pushed e (withdrawal_of first e.count p.index v (partial_amount S p v))
     else e
 
@@ -58,7 +58,7 @@ unfoldable pub list_validator : rule.Settings → (epoch first i : ℕ) → rule
     → ExpectedWithdrawals → ExpectedWithdrawals
 list_validator S epoch first i v e =
     let amount = sweep_amount S epoch v in
-    if ltb 0 amount then pushed e (withdrawal_of first e.count i v amount) else e
+    when ltb 0 amount then pushed e (withdrawal_of first e.count i v amount) else e
 
 -- ---- what is left of the walk over the queue, and of the sweep, behind what e lists
 

@@ -7,7 +7,7 @@ use borrow.Author.Tests.{ltb-true, ltb-false}
 use Rattle.std.proofs.Math.ListN.{get_or, get_or-eq_default}
 use Rattle.std.proofs.lemmas.List.{length-replicate}
 use Rattle.std.proofs.Math.Seq.{paste, paste-zero, paste-suc}
-use Rattle.lists.specs.Base.{if◌then◌else◌}
+use Rattle.lists.specs.Base.{when◌then◌else◌}
 use Rattle.lists.specs.Laws.{both}
 use Rattle.file_format.specs.Words.{words, payload}
 use Rattle.file_format.specs.Fields.{field, field_ok, is_three_bytes, first, second, third}
@@ -79,7 +79,7 @@ module _ (bs : List ℕ) (k n : ℕ) (e : (field n).ok (drop k (words bs)) ≡ t
       the_word = get_or-drop k (words bs) i 0 ∙ word_at bs (k + i) field_inside
 
       first_byte : get_or bs (at + 2) 0 ≡ get_or ((field n).value us) (i * 3) 0
-      unfolding field if◌then◌else◌
+      unfolding field when◌then◌else◌
       first_byte =
           let w = get_or us i 0 in
           let a = small at in
@@ -92,7 +92,7 @@ module _ (bs : List ℕ) (k n : ℕ) (e : (field n).ok (drop k (words bs)) ≡ t
           x ∙ sym (field_at n (i * 3) us h ∙ (rw (q, p)))
 
       second_byte : i * 3 + 1 < n → get_or bs (at + 1) 0 ≡ get_or ((field n).value us) (i * 3 + 1) 0
-      unfolding field if◌then◌else◌
+      unfolding field when◌then◌else◌
       second_byte l =
           let w = get_or us i 0 in
           let a = small at in
@@ -103,7 +103,7 @@ module _ (bs : List ℕ) (k n : ℕ) (e : (field n).ok (drop k (words bs)) ≡ t
           x ∙ sym (field_at n (i * 3 + 1) us l ∙ (rw (q, p)))
 
       third_byte : i * 3 + 2 < n → get_or bs at 0 ≡ get_or ((field n).value us) (i * 3 + 2) 0
-      unfolding field if◌then◌else◌
+      unfolding field when◌then◌else◌
       third_byte l =
           let w = get_or us i 0 in
           let a = small at in

@@ -1,7 +1,7 @@
 -- What readers and writers of the two files answer.
 use Rattle.std.specs.Prelude.{not, List, [], ◌∷◌, ◌++◌, ℕ, length, drop, ltb, eqb}
 use Rattle.std.proofs.Math.Option.{Option, some, none}
-use Rattle.lists.specs.Base.{if◌then◌else◌}
+use Rattle.lists.specs.Base.{when◌then◌else◌}
 use Rattle.rules.specs.Types.{Settings, Books}
 use Rattle.rules.specs.Calls.{Operation, Room, handed_refusal}
 use Rattle.file_format.specs.Calls.{calls_writable}
@@ -22,8 +22,8 @@ unfoldable pub write_answer : Settings → Books → Room → (space : ℕ) → 
 write_answer S b r space =
     let handed = handed_refusal S b r in
     let short = ltb space (length (write_books S b)) in
-    if not (eqb handed 0) then handed
-    else if short then 61
+    when not (eqb handed 0) then handed
+    else when short then 61
     else 0
 
 -- ---- a buffer that begins with these bytes; the bytes past them are as they were
@@ -41,8 +41,8 @@ abbrev pub added_answer : (space : ℕ) → Operation → Option (List Operation
 added_answer space o none = 60
 added_answer space o (some os) =
     let short = ltb space (length (write_calls (one_more os o))) in
-    if not (calls_writable (one_more os o)) then 60
-    else if short then 61
+    when not (calls_writable (one_more os o)) then 60
+    else when short then 61
     else 0
 
 -- a writer that adds the call o to the calls file bs, in a buffer of `space` bytes: 60 where bs is no calls file, or no

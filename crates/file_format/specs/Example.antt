@@ -2,7 +2,7 @@
 -- are in hexadecimal: the first digit is the kind.
 use Rattle.std.specs.Prelude.{◌≡◌, refl, true, false, List, [], ◌∷◌, ℕ, zero, suc, ◌-◌, ◌*◌, ◌^◌}
 use Rattle.std.proofs.Math.Option.{some}
-use Rattle.lists.specs.Base.{if◌then◌else◌}
+use Rattle.lists.specs.Base.{when◌then◌else◌}
 use Rattle.rules.specs.Types.{Settings, Validator, Books}
 use Rattle.rules.specs.Calls.{Operation, reward, penalty, deposit_receipt, voluntary_exit, withdrawal_request}
 use Rattle.rules.specs.Calls.{consolidation, turn, withdrawals}
@@ -16,7 +16,7 @@ use Rattle.file_format.specs.File.{write_books, read_books, write_calls, read_ca
 
 unfoldable pub opened : ℕ
 unfolding
-    if◌then◌else◌ number field flag many file.settings file.validator file.deposit file.partial file.consolidation
+    when◌then◌else◌ number field flag many file.settings file.validator file.deposit file.partial file.consolidation
     file.books file.books_format calls.withdrawal calls.call calls.calls_format write_file file_ok read_file
 opened = 0
 

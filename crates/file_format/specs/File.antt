@@ -1,7 +1,7 @@
 -- A whole file: the words of a format, the end word and nothing after, as bytes.
 use Rattle.std.specs.Prelude.{Bool, ◌&&◌, List, ℕ, ◌-◌, ◌%◌, length, get_or, take, eqb}
 use Rattle.std.proofs.Math.Option.{Option, some, none}
-use Rattle.lists.specs.Base.{if◌then◌else◌}
+use Rattle.lists.specs.Base.{when◌then◌else◌}
 use Rattle.rules.specs.Types.{Settings, Books}
 use Rattle.rules.specs.Calls.{Operation}
 use Rattle.file_format.specs.Words.{end_word, with_end, bytes, words}
@@ -27,7 +27,7 @@ module _ {A : Type 0} (F : Format A) where
   unfoldable pub read_file : List ℕ → Option A
   read_file bs =
       let read = some (F.value (words bs)) in
-      if file_ok bs then read else none
+      when file_ok bs then read else none
 
 -- ---- the two files
 

@@ -7,7 +7,7 @@ use mathlib.Core.List.{List, [], ◌∷◌, ◌++◌, append-nil}
 use Rattle.std.proofs.Math.Option.{some, none}
 use Rattle.std.proofs.Math.ListN.{length, get_or, take}
 use borrow.Author.Tests.{ltb-true, eqb-true, eq-eqb, lt-ltb}
-use Rattle.lists.specs.Base.{if◌then◌else◌, every}
+use Rattle.lists.specs.Base.{when◌then◌else◌, every}
 use Rattle.lists.specs.Laws.{both, join, every_append, if_true}
 use Rattle.file_format.specs.Words.{wrapping_sum, end_word, with_end, is_byte, bytes, words}
 use Rattle.file_format.specs.Fields.{Format}
@@ -150,10 +150,10 @@ module _ {A : Type 0} {F : Format A} (f : Lawful F) where
 
   -- a file is read where it is ok
   read_ok : (bs : List ℕ) (a : A) → read_file F bs ≡ some a → (file_ok F bs ≡ true) × (F.value (words bs) ≡ a)
-  unfolding read_file if◌then◌else◌
+  unfolding read_file when◌then◌else◌
   read_ok bs a e = go (file_ok F bs) refl e
     where
-      go : (t : Bool) → file_ok F bs ≡ t → (if t then some (F.value (words bs)) else none) ≡ some a
+      go : (t : Bool) → file_ok F bs ≡ t → (when t then some (F.value (words bs)) else none) ≡ some a
           → (file_ok F bs ≡ true) × (F.value (words bs) ≡ a)
       go true p q = (p, some_same q)
       go false p q = some_not_none (sym q)
@@ -178,10 +178,10 @@ module _ {A : Type 0} {F : Format A} (f : Lawful F) where
   -- and what was not written is refused
   pub unwritten_refused : (bs : List ℕ) → every is_byte bs ≡ true
       → ((a : A) → F.domain a ≡ true → write_file F a ≡ bs → ⊥) → read_file F bs ≡ none
-  unfolding read_file if◌then◌else◌
+  unfolding read_file when◌then◌else◌
   unwritten_refused bs h n = go (file_ok F bs) refl
     where
-      go : (t : Bool) → file_ok F bs ≡ t → (if t then some (F.value (words bs)) else none) ≡ none
+      go : (t : Bool) → file_ok F bs ≡ t → (when t then some (F.value (words bs)) else none) ≡ none
       go true p =
           let o = ok_written bs h p in
           absurd (n (F.value (words bs)) o.0 (sym o.1))

@@ -4,7 +4,7 @@ use Rattle.std.proofs.Common.{sym, ◌∙◌, not-suc-le-zero, add-zero, arith, 
 use Rattle.std.proofs.Math.Path.{ap}
 use Rattle.std.proofs.Math.Nat.{mod-add-mod}
 use Rattle.std.proofs.Math.Dec.{eqb}
-use Rattle.lists.specs.Base.{if◌then◌else◌, total}
+use Rattle.lists.specs.Base.{when◌then◌else◌, total}
 use Rattle.lists.specs.Laws.{both, total_append}
 use Rattle.rules.specs.Profiles.{settings_from}
 use Rattle.file_format.specs.Words.{word, payload, is_word, wrapping_sum, words}
@@ -51,7 +51,7 @@ word_at (a ∷ b ∷ c ∷ d ∷ bs) (suc k) h =
 abbrev pub byte_at : List ℕ → ℕ → ℕ
 byte_at ws j =
     let w = get_or ws (j / 3) 0 in
-    if eqb (j % 3) 0 then first w else if eqb (j % 3) 1 then second w else third w
+    when eqb (j % 3) 0 then first w else when eqb (j % 3) 1 then second w else third w
 
 byte_later : (ws : List ℕ) (j : ℕ) → byte_at (drop 1 ws) j ≡ byte_at ws (suc (suc (suc j)))
 byte_later ws j =
@@ -61,7 +61,7 @@ byte_later ws j =
     rw (p, q, w)
 
 pub field_at : (n j : ℕ) (ws : List ℕ) → j < n → get_or (field_value n ws) j 0 ≡ byte_at ws j
-unfolding if◌then◌else◌
+unfolding when◌then◌else◌
 field_at zero j ws h = absurd (not-suc-le-zero h)
 field_at (suc zero) zero ws h = refl
 field_at (suc zero) (suc j) ws h = let z : ⊥ = omega arith in absurd z

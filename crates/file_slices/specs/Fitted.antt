@@ -1,13 +1,13 @@
 -- The number of a call that is lent scalars as a slice: a slice that is too short is a short buffer.
 use Rattle.std.specs.Prelude.{◌≡◌, refl, Bool, true, false, List, [], ℕ}
 use Rattle.std.proofs.Common.{sym, ◌∙◌}
-use Rattle.lists.specs.Base.{if◌then◌else◌}
+use Rattle.lists.specs.Base.{when◌then◌else◌}
 use Rattle.lists.specs.Laws.{if_true, if_false}
 use Rattle.slices.specs.Exported.{rules_in, fit, unfit_answer, unfit_refused}
 
 -- n where the slice s has room for the scalars; settings are in xs
 unfoldable pub fitted : (xs s : List ℕ) → ℕ → ℕ
-fitted xs s n = if fit s [] then n else unfit_answer (rules_in xs)
+fitted xs s n = when fit s [] then n else unfit_answer (rules_in xs)
 
 pub fitted_fit : (xs s : List ℕ) (n : ℕ) → fit s [] ≡ true → fitted xs s n ≡ n
 unfolding fitted

@@ -2,7 +2,7 @@
 use Rattle.std.specs.Prelude.{◌≡◌, refl, Bool, true, false, not, List, [], ◌∷◌, ℕ, leb, length, drop}
 use Rattle.std.proofs.Common.{ap, sym, ◌∙◌, arith}
 use Rattle.std.proofs.Math.Option.{Option, some, none}
-use Rattle.lists.specs.Base.{if◌then◌else◌}
+use Rattle.lists.specs.Base.{when◌then◌else◌}
 use Rattle.lists.specs.Laws.{if_true, if_false}
 use Rattle.rules.specs.Types as rule
 use Rattle.rules.specs.Calls.{Room}
@@ -32,7 +32,7 @@ unfit_opened (some p) = unfit_answer p.0
 unfoldable pub exported_read_answer : (x s : List ℕ) → Room → (bs : List ℕ) → ℕ
 exported_read_answer x s r bs =
     let unfit = unfit_opened (read_books bs) in
-    if read_fit x s then read_answer r bs else unfit
+    when read_fit x s then read_answer r bs else unfit
 
 -- ---- the promise
 

@@ -2,7 +2,7 @@
 use Rattle.std.specs.Prelude.{◌≡◌, refl, ℕ, ◌≤◌, ◌<◌, eqb}
 use Rattle.std.proofs.Common.{ap, arith}
 use borrow.Author.Tests.{eq-eqb, ne_eqb, lt-ltb, le-ltb}
-use Rattle.lists.specs.Base.{if◌then◌else◌}
+use Rattle.lists.specs.Base.{when◌then◌else◌}
 use Rattle.rules.specs.Types.{BOUND}
 use Rattle.rules.specs.Helpers as rule
 use Rattle.rules.specs.Helpers.{assign_epoch}
@@ -47,7 +47,7 @@ answer_fixed EpochOverBound EpochOverBound n e = refl
 -- a refusal gives no assignment
 unfoldable pub assignment_result : (left earliest_epoch activation_exit_epoch churn amount : ℕ) → rule.Assignment
 assignment_result left earliest_epoch activation_exit_epoch churn amount =
-    if eqb (assignment_answer left earliest_epoch activation_exit_epoch churn amount) 0
+    when eqb (assignment_answer left earliest_epoch activation_exit_epoch churn amount) 0
     then assign_epoch left earliest_epoch activation_exit_epoch churn amount
     else no_assignment
 
@@ -56,28 +56,28 @@ assignment_result left earliest_epoch activation_exit_epoch churn amount =
 module _ (left earliest_epoch activation_exit_epoch churn amount : ℕ) where
   pub answer_churn_zero : churn ≡ 0
       → 50 ≡ assignment_answer left earliest_epoch activation_exit_epoch churn amount
-  unfolding assignment_answer if◌then◌else◌
+  unfolding assignment_answer when◌then◌else◌
   answer_churn_zero h = rw (eq-eqb churn 0 h)
 
   pub answer_over : {a : rule.Assignment}
       → a ≡ assign_epoch left earliest_epoch activation_exit_epoch churn amount → (churn ≡ 0 → ⊥) → BOUND < a.epoch
       → 42 ≡ assignment_answer left earliest_epoch activation_exit_epoch churn amount
-  unfolding assignment_answer if◌then◌else◌
+  unfolding assignment_answer when◌then◌else◌
   answer_over {a} e h over = rw (ne_eqb churn 0 h, ← e, lt-ltb BOUND a.epoch over)
 
   pub answer_done : {a : rule.Assignment}
       → a ≡ assign_epoch left earliest_epoch activation_exit_epoch churn amount → (churn ≡ 0 → ⊥) → a.epoch ≤ BOUND
       → 0 ≡ assignment_answer left earliest_epoch activation_exit_epoch churn amount
-  unfolding assignment_answer if◌then◌else◌
+  unfolding assignment_answer when◌then◌else◌
   answer_done {a} e h within = rw (ne_eqb churn 0 h, ← e, le-ltb BOUND a.epoch within)
 
   pub result_refused : {n : ℕ} → n ≡ assignment_answer left earliest_epoch activation_exit_epoch churn amount
       → (n ≡ 0 → ⊥) → no_assignment ≡ assignment_result left earliest_epoch activation_exit_epoch churn amount
-  unfolding assignment_result if◌then◌else◌
+  unfolding assignment_result when◌then◌else◌
   result_refused {n} e z = rw (← e) (rw (ne_eqb n 0 z))
 
   pub result_done : 0 ≡ assignment_answer left earliest_epoch activation_exit_epoch churn amount
       → assign_epoch left earliest_epoch activation_exit_epoch churn amount
       ≡ assignment_result left earliest_epoch activation_exit_epoch churn amount
-  unfolding assignment_result if◌then◌else◌
+  unfolding assignment_result when◌then◌else◌
   result_done e = rw (← e)

@@ -1,7 +1,7 @@
 -- The churn accounts' assignments by name, and an exit in two steps: what it is assigned, and the store of that.
 use Rattle.std.specs.Prelude.{◌≡◌, refl, List, ℕ, ◌+◌, ◌≤◌, ◌<◌, ◌^◌}
 use Rattle.std.proofs.Common.{sym, ap, ◌∙◌, arith, eq-eqb}
-use Rattle.lists.specs.Base.{if◌then◌else◌, adjust}
+use Rattle.lists.specs.Base.{when◌then◌else◌, adjust}
 use Rattle.rules.specs.Types.{FAR, BOUND, Settings, Validator, Books}
 use Rattle.rules.specs.Update.{with_exit, with_exit_churn, with_validators}
 use Rattle.rules.specs.Helpers.{at, Assignment, assign_epoch, compute_activation_exit_epoch}
@@ -56,7 +56,7 @@ begin_exit S i a b =
 module _ (S : Settings) (i : ℕ) (b : Books) where
   pub exit_in_steps : (at b.validators i).exit_epoch ≡ FAR
       → initiate_validator_exit S i b ≡ begin_exit S i (exit_assignment S i b) b
-  unfolding initiate_validator_exit begin_exit exit_assignment if◌then◌else◌
+  unfolding initiate_validator_exit begin_exit exit_assignment when◌then◌else◌
   exit_in_steps h = rw (eq-eqb (at b.validators i).exit_epoch FAR h)
 
 -- the same on tables

@@ -1,7 +1,7 @@
 -- Laws of the two walks: the first of equal keys, and the sum owed to a validator.
 use Rattle.std.specs.Prelude.{◌≡◌, true, false, List, [], ◌∷◌, ℕ, suc, ◌+◌, ◌≤◌, ◌<◌, drop}
 use Rattle.std.proofs.Common.{ap, ◌∙◌, arith}
-use Rattle.lists.specs.Base.{if◌then◌else◌, total, same_bytes}
+use Rattle.lists.specs.Base.{when◌then◌else◌, total, same_bytes}
 use Rattle.lists.specs.Laws.{if_true, if_false, by_test}
 use Rattle.tables.specs.Rows.{rows, drop_rows_at, drop_rows_end}
 use Rattle.rules.specs.Types.{Validator, PendingPartialWithdrawal}
@@ -12,7 +12,7 @@ module _ (key : List ℕ) (n : ℕ) (g : ℕ → Validator) (i : ℕ)
     (inv : i + position key (drop i (rows n g)) ≡ position key (rows n g)) where
   step : i < n
       → position key (drop i (rows n g))
-      ≡ (if same_bytes key (g i).public_key then 0 else suc (position key (drop (i + 1) (rows n g))))
+      ≡ (when same_bytes key (g i).public_key then 0 else suc (position key (drop (i + 1) (rows n g))))
   step h = ap (position key) (drop_rows_at n g i h)
 
   pub position_more : i < n → same_bytes key (g i).public_key ≡ false

@@ -2,10 +2,10 @@
 use Rattle.std.specs.Prelude.{Bool, true, false, ◌&&◌, List, [], ◌∷◌, ℕ, zero, suc, ◌+◌, eqb}
 
 module _ {ℓ} {A : Type ℓ} where
-  infixr 10 if◌then◌else◌
-  unfoldable pub if◌then◌else◌ : Bool → A → A → A
-  if true then x else y = x
-  if false then x else y = y
+  infixr 10 when◌then◌else◌
+  unfoldable pub when◌then◌else◌ : Bool → A → A → A
+  when true then x else y = x
+  when false then x else y = y
 
 -- all of some tests pass
 unfoldable pub all : List Bool → Bool

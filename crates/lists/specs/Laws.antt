@@ -1,23 +1,23 @@
 -- Laws of the functions of Base.
 use Rattle.std.specs.Prelude.{◌≡◌, refl, Bool, true, false, not, ◌&&◌, List, [], ◌∷◌, ◌++◌, map, ℕ, zero, suc, ◌+◌, ◌≤◌, ◌<◌, length, get_or, take, drop}
 use Rattle.std.proofs.Common.{sym, ap, le_of_suc-le-suc, not-suc-le-zero, arith}
-use Rattle.lists.specs.Base.{if◌then◌else◌, all, adjust, total, every}
+use Rattle.lists.specs.Base.{when◌then◌else◌, all, adjust, total, every}
 
 -- ---- tests
 
 -- a claim about an `if` is proved for each branch, with what the test said
 pub by_test {ℓ κ} : {A : Type ℓ} (P : A → Type κ) (t : Bool) {x y : A}
-    → (t ≡ true → P x) → (t ≡ false → P y) → P (if t then x else y)
-unfolding if◌then◌else◌
+    → (t ≡ true → P x) → (t ≡ false → P y) → P (when t then x else y)
+unfolding when◌then◌else◌
 by_test P true f g = f refl
 by_test P false f g = g refl
 
-pub if_true {ℓ} : {A : Type ℓ} (t : Bool) (x y : A) → t ≡ true → (if t then x else y) ≡ x
-unfolding if◌then◌else◌
+pub if_true {ℓ} : {A : Type ℓ} (t : Bool) (x y : A) → t ≡ true → (when t then x else y) ≡ x
+unfolding when◌then◌else◌
 if_true t x y e = rw e
 
-pub if_false {ℓ} : {A : Type ℓ} (t : Bool) (x y : A) → t ≡ false → (if t then x else y) ≡ y
-unfolding if◌then◌else◌
+pub if_false {ℓ} : {A : Type ℓ} (t : Bool) (x y : A) → t ≡ false → (when t then x else y) ≡ y
+unfolding when◌then◌else◌
 if_false t x y e = rw e
 
 pub both : (s t : Bool) → (s && t) ≡ true → (s ≡ true) × (t ≡ true)
@@ -68,8 +68,8 @@ unfolding all
 all_more t ts p q = join p q
 
 -- a chain of tests came to 0: this one did not fail, and the rest came to 0
-pub passed : (t : Bool) {n r : ℕ} → 0 < n → (if t then n else r) ≡ 0 → (t ≡ false) × (r ≡ 0)
-unfolding if◌then◌else◌
+pub passed : (t : Bool) {n r : ℕ} → 0 < n → (when t then n else r) ≡ 0 → (t ≡ false) × (r ≡ 0)
+unfolding when◌then◌else◌
 passed true h e = let z : ⊥ = omega arith in absurd z
 passed false h e = (refl, e)
 

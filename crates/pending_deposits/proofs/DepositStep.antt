@@ -7,7 +7,7 @@ use native.Mathlib.Omega.{arith}
 use lib.ListN.{length, drop, length-append}
 use lib.Seq.{take-append_seam}
 use borrow.Author.Tests.{ltb-true}
-use Rattle.lists.specs.Base.{if◌then◌else◌, adjust, total, every, empty}
+use Rattle.lists.specs.Base.{when◌then◌else◌, adjust, total, every, empty}
 use Rattle.lists.specs.Laws.{total_adjust, total_append}
 use Rattle.tables.specs.Rows.{rows, length_rows, drop_rows_at, drop_rows_end}
 use Rattle.tables.specs.Totals.{total_at_most}
@@ -186,7 +186,7 @@ module _ (S : Settings) (s : Scalars) (t : Tables) (allowance available amount n
   queue = rw (← rest) drained.records
 
   stepped : (carry : ℕ)
-      → (if empty (drop next (deposits_of s t.deposits)) then 0 else available - amount) ≡ carry
+      → (when empty (drop next (deposits_of s t.deposits)) then 0 else available - amount) ≡ carry
       → Stepped (process_pending_balance_deposits S) s t tables_after (with_deposit_balance_to_consume s carry left)
   unfolding books_of process_pending_balance_deposits
   stepped carry e = record {
@@ -203,12 +203,12 @@ module _ (S : Settings) (s : Scalars) (t : Tables) (allowance available amount n
   -- no deposit waits
   pub emptied : left ≡ 0
       → Stepped (process_pending_balance_deposits S) s t tables_after (with_deposit_balance_to_consume s 0 left)
-  unfolding if◌then◌else◌
+  unfolding when◌then◌else◌
   emptied e = stepped 0 (rw (drop_rows_end s.deposits (deposit_at t.deposits) next (omega arith)))
 
   pub waiting : 0 < left
       → Stepped (process_pending_balance_deposits S) s t tables_after
       (with_deposit_balance_to_consume s (available - amount) left)
-  unfolding if◌then◌else◌
+  unfolding when◌then◌else◌
   waiting e =
       stepped (available - amount) (rw (drop_rows_at s.deposits (deposit_at t.deposits) next (omega arith)))

@@ -8,7 +8,7 @@ use native.Mathlib.Omega.{arith}
 use lib.ListN.{length, get_or, drop, length-append}
 use lib.Dec.{ltb}
 use borrow.Author.Tests.{ltb-true, lt-ltb, le-ltb, ne_eqb}
-use Rattle.lists.specs.Base.{if◌then◌else◌, every}
+use Rattle.lists.specs.Base.{when◌then◌else◌, every}
 use Rattle.lists.specs.Laws.{both}
 use Rattle.tables.specs.Rows.{rows}
 use Rattle.tables.specs.Tests.{every_row}
@@ -46,7 +46,7 @@ module _ {S : Settings} {s : Scalars} {cs : List PendingConsolidation} {b : Book
     left_with f = omega (arith, l.left, ap (λ x. length (excess_entries S x l.now)) e, f)
 
     pub counting_skip : {x : ℕ} → x ≡ slashed_at ws c.source_index → x ≡ 1 → Counting S s cs b ws w (k + 1) found
-    unfolding excess_entries if◌then◌else◌
+    unfolding excess_entries when◌then◌else◌
     counting_skip p q = record {
       now = l.now;
       represented = l.represented;
@@ -57,7 +57,7 @@ module _ {S : Settings} {s : Scalars} {cs : List PendingConsolidation} {b : Book
     module _ {x : ℕ} (p : x ≡ slashed_at ws c.source_index) (q : x ≢ 1)
         {epoch : ℕ} (r : epoch ≡ withdrawable_epoch_at ws c.source_index) where
       stopped : s.epoch.0 < epoch → excess_entries S (c ∷ drop (k + 1) cs) l.now ≡ []
-      unfolding excess_entries if◌then◌else◌
+      unfolding excess_entries when◌then◌else◌
       stopped t =
           rw (
             l.represented.slashed c.source_index i,
@@ -75,7 +75,7 @@ module _ {S : Settings} {s : Scalars} {cs : List PendingConsolidation} {b : Book
       consolidated : epoch ≤ s.epoch.0
           → excess_entries S (c ∷ drop (k + 1) cs) l.now
           ≡ excess_entry S c.target_index l.now ++ excess_entries S (drop (k + 1) cs) (consolidate S c l.now)
-      unfolding excess_entries if◌then◌else◌
+      unfolding excess_entries when◌then◌else◌
       consolidated t =
           rw (
             l.represented.slashed c.source_index i,

@@ -7,7 +7,7 @@ use Rattle.std.specs.Prelude.{◌≡◌, refl, ◌≢◌, Bool, true, false, Lis
 use Rattle.std.proofs.Common.{sym, ap, ◌∙◌, arith, get_or-set_same, get_or-set_other, eqb-true, ne_eqb}
 use Rattle.std.proofs.Math.Decide.{ℕ_discrete}
 use Rattle.std.proofs.Math.ListN.{length, length-set}
-use Rattle.lists.specs.Base.{if◌then◌else◌, adjust}
+use Rattle.lists.specs.Base.{when◌then◌else◌, adjust}
 use Rattle.lists.specs.Laws.{by_test, if_true, if_false, getD_adjust}
 use Rattle.rules.specs.Types.{Settings, Validator, PendingConsolidation, Books}
 use Rattle.rules.specs.Helpers.{at, no_validator, prefix, increased, decreased, get_active_balance}
@@ -23,7 +23,7 @@ use Rattle.queue_room.specs.Laws.{adjust_other, adjust_keeps, switch_done, switc
 
 -- an amount, where the prefix is that of a validator that can switch
 abbrev pub switchable_amount : (prefix amount : ℕ) → ℕ
-switchable_amount p amount = if eqb p 1 then amount else 0
+switchable_amount p amount = when eqb p 1 then amount else 0
 
 unfoldable pub switchable_balance : Validator → ℕ
 switchable_balance v = switchable_amount (prefix v.withdrawal_credentials) v.balance
@@ -66,7 +66,7 @@ switchable_at_most v = amount_at_most (prefix v.withdrawal_credentials) v.balanc
 switchable_increased : (amount : ℕ) (v : Validator)
     → switchable_balance v + switchable_amount (prefix v.withdrawal_credentials) amount
     ≡ switchable_balance (increased amount v)
-unfolding if◌then◌else◌
+unfolding when◌then◌else◌
 switchable_increased amount v = go (has_eth1_withdrawal_credential v) refl
   where
     go : (t : Bool) → has_eth1_withdrawal_credential v ≡ t
@@ -78,7 +78,7 @@ switchable_increased amount v = go (has_eth1_withdrawal_credential v) refl
 -- the active balance of a validator with prefix 01 is at most the minimum
 switchable_decreased : (S : Settings) (v : Validator)
     → switchable_balance v - S.min_activation_balance ≡ switchable_balance (decreased (get_active_balance S v) v)
-unfolding switchable_balance if◌then◌else◌
+unfolding switchable_balance when◌then◌else◌
 switchable_decreased S v = go (has_eth1_withdrawal_credential v) refl
   where
     go : (t : Bool) → has_eth1_withdrawal_credential v ≡ t

@@ -3,7 +3,7 @@ use Rattle.std.specs.Prelude.{◌≡◌, Bool, true, false, List, [], ◌∷◌,
 use Rattle.std.proofs.Math.Path.{refl, ap}
 use Rattle.std.proofs.Common.{sym, ◌∙◌, arith, length-append, length-drop, le-leb}
 use Rattle.std.proofs.Math.ListN.{length}
-use Rattle.lists.specs.Base.{if◌then◌else◌}
+use Rattle.lists.specs.Base.{when◌then◌else◌}
 use Rattle.tables.specs.Rows.{length_rows}
 use Rattle.rules.specs.Types.{Settings, PendingBalanceDeposit, PendingConsolidation, Books}
 use Rattle.rules.specs.Update.{with_pending_consolidations}
@@ -34,12 +34,12 @@ available_amount S b = b.deposit_balance_to_consume + get_activation_exit_churn_
 
 switch_queue : (S : Settings) (i : ℕ) (b : Books)
     → queued (switch_to_compounding_validator S i b) ≡ queued b + length (excess_entry S i b)
-unfolding excess_entry if◌then◌else◌
+unfolding excess_entry when◌then◌else◌
 switch_queue S i b =
     ap queued (switch_form S i b) ∙ go (has_eth1_withdrawal_credential (at b.validators i)) refl
   where
     go : (t : Bool) → has_eth1_withdrawal_credential (at b.validators i) ≡ t
-        → queued (if t then switched_books S i b else b) ≡ queued b + length (excess_entry S i b)
+        → queued (when t then switched_books S i b else b) ≡ queued b + length (excess_entry S i b)
     go true e = length-append b.pending_balance_deposits (excess_entry S i b)
     go false e = rw e (omega arith)
 
@@ -50,7 +50,7 @@ consolidate_queue S c b = switch_queue S c.target_index b
 
 consolidations_queue : (S : Settings) (cs : List PendingConsolidation) (b : Books)
     → queued (process_consolidations S cs b) ≡ queued b + length (excess_entries S cs b)
-unfolding process_consolidations excess_entries if◌then◌else◌
+unfolding process_consolidations excess_entries when◌then◌else◌
 consolidations_queue S [] b = omega arith
 consolidations_queue S (c ∷ cs) b =
     let source = at b.validators c.source_index in
@@ -61,13 +61,13 @@ consolidations_queue S (c ∷ cs) b =
         → queued (process_consolidations S cs (consolidate S c b))
         ≡ queued (consolidate S c b) + length (excess_entries S cs (consolidate S c b))
         → queued
-        (if t then process_consolidations S cs b
-        else if u then with_pending_consolidations (c ∷ cs) b
+        (when t then process_consolidations S cs b
+        else when u then with_pending_consolidations (c ∷ cs) b
         else process_consolidations S cs (consolidate S c b))
         ≡ queued b
         + length {A = PendingBalanceDeposit}
-        (if t then excess_entries S cs b
-        else if u then []
+        (when t then excess_entries S cs b
+        else when u then []
         else excess_entry S c.target_index b ++ excess_entries S cs (consolidate S c b))
     go true u p q = p
     go false true p q = omega arith
@@ -80,14 +80,14 @@ consolidations_queue S (c ∷ cs) b =
         )
 
 -- a consolidation queues at most one entry
-pub at_most_one : {n : ℕ} (t : Bool) → n ≡ (if t then 1 else 0) → n ≤ 1
-unfolding if◌then◌else◌
+pub at_most_one : {n : ℕ} (t : Bool) → n ≡ (when t then 1 else 0) → n ≤ 1
+unfolding when◌then◌else◌
 at_most_one true e = omega arith
 at_most_one false e = omega arith
 
 entries_at_most : (S : Settings) (cs : List PendingConsolidation) (b : Books)
     → length (excess_entries S cs b) ≤ length cs
-unfolding excess_entries if◌then◌else◌
+unfolding excess_entries when◌then◌else◌
 entries_at_most S [] b = omega arith
 entries_at_most S (c ∷ cs) b =
     let source = at b.validators c.source_index in
@@ -102,8 +102,8 @@ entries_at_most S (c ∷ cs) b =
     go : (t u : Bool) → length (excess_entries S cs b) ≤ length cs
         → length (excess_entries S cs (consolidate S c b)) ≤ length cs
         → length {A = PendingBalanceDeposit}
-        (if t then excess_entries S cs b
-        else if u then []
+        (when t then excess_entries S cs b
+        else when u then []
         else excess_entry S c.target_index b ++ excess_entries S cs (consolidate S c b))
         ≤ length (c ∷ cs)
     go true u p q = omega arith

@@ -3,7 +3,7 @@ use Rattle.std.specs.Prelude.{◌≡◌, Bool, ◌&&◌, List, [], ℕ, ◌+◌,
 use Rattle.std.proofs.Math.Path.{refl, sym, ap, ap₂}
 use Rattle.std.proofs.Common.{◌∙◌, arith, lt-ltb, le-ltb}
 use Rattle.std.proofs.Math.Bool.{true, false}
-use Rattle.lists.specs.Base.{if◌then◌else◌}
+use Rattle.lists.specs.Base.{when◌then◌else◌}
 use Rattle.lists.specs.Laws.{by_test, if_true, both}
 use Rattle.tables.specs.Rows.{length_rows}
 use Rattle.rules.specs.Types.{FAR, BOUND, Settings, Validator, Books}
@@ -35,7 +35,7 @@ use Rattle.call_answers.specs.Tests.{fails, passes}
 abbrev pub started : Scalars → ℕ → Scalars
 started s index =
     let start = s.deposit_receipts_start_index in
-    scalars.with_receipts_start s (if eqb start FAR then index else start)
+    scalars.with_receipts_start s (when eqb start FAR then index else start)
 
 module _ (s : Scalars) (index : ℕ) (t : Tables) where
   pub started_books : start_receipts index (books_of s t) ≡ books_of (started s index) t
@@ -122,10 +122,10 @@ started_sums s q index t begun ids ps cs amount e =
 unfoldable pub known_deposit : Settings → (i amount : ℕ) → Bool → Books → Books
 known_deposit S i amount switch b =
     let queued = queue_deposit i amount b in
-    if switch then switch_to_compounding_validator S i queued else queued
+    when switch then switch_to_compounding_validator S i queued else queued
 
 pub few_entries : (minimum balance : ℕ) (switch : Bool)
-    → (if switch then excess_entry_count minimum balance else 0) ≤ 1
+    → (when switch then excess_entry_count minimum balance else 0) ≤ 1
 few_entries minimum balance switch =
     let P : ℕ → Type 0 = λ n. n ≤ 1 in
     by_test P switch (λ e. by_test P _ (λ f. omega arith) (λ f. omega arith)) (λ e. omega arith)
@@ -143,15 +143,15 @@ module _ (S : Settings) (s : Scalars) (t : Tables) (i : ℕ) (known : i < s.vali
       ∙ ap (λ (w : Validator). excess_entry_count S.min_activation_balance w.balance) at_read
 
   more : (switch : Bool) → (switch ≡ true → has_eth1_withdrawal_credential v ≡ true)
-      → (if switch then excess_entry_count S.min_activation_balance v.balance else 0)
-      ≡ length (if switch then excess_entry S i (books_of s t) else [])
-  unfolding if◌then◌else◌
+      → (when switch then excess_entry_count S.min_activation_balance v.balance else 0)
+      ≡ length (when switch then excess_entry S i (books_of s t) else [])
+  unfolding when◌then◌else◌
   more true h = sym (entries_known (h refl))
   more false h = refl
 
   pub known_number : SoundBooks S (books_of s t) → (amount entries : ℕ) (switch : Bool)
       → (switch ≡ true → has_eth1_withdrawal_credential v ≡ true)
-      → entries ≡ (if switch then excess_entry_count S.min_activation_balance v.balance else 0)
+      → entries ≡ (when switch then excess_entry_count S.min_activation_balance v.balance else 0)
       → size_number (leb (s.deposits + 1 + entries) S.pending_balance_deposits_limit)
       (leb (held (books_of s t) + amount) BOUND) true
       ≡ size_refusal S (known_deposit S i amount switch (books_of s t))
@@ -166,7 +166,7 @@ module _ (S : Settings) (s : Scalars) (t : Tables) (i : ℕ) (known : i < s.vali
 -- the switch's entry finds room behind the deposit's own
 pub switch_room : (S : Settings) (s q : Scalars) (i : ℕ) → i < s.validators → (v : Validator) (ids vs ds us : List ℕ)
     → v ≡ validator_at ids vs i → has_eth1_withdrawal_credential v ≡ true → (entries : ℕ) (switch : Bool)
-    → switch ≡ true → entries ≡ (if switch then excess_entry_count S.min_activation_balance v.balance else 0)
+    → switch ≡ true → entries ≡ (when switch then excess_entry_count S.min_activation_balance v.balance else 0)
     → s.deposits + 1 + entries ≤ deposits_fit ds → length us ≡ length ds
     → q ≡ scalars.with_deposits s (s.deposits + 1) → (ps cs : List ℕ)
     → q.deposits + length (excess_entry S i (books_of q (tables ids vs us ps cs))) ≤ deposits_fit us
@@ -196,13 +196,13 @@ module _ (S : Settings) (s : Scalars) (i amount : ℕ) (ids vs ds us : List ℕ)
 
   pub known_stepped : {r : Scalars} (switch : Bool) → switch ≡ false → r ≡ queued
       → Stepped (known_deposit S i amount switch) s (tables ids vs ds ps cs) (tables ids vs us ps cs) r
-  unfolding known_deposit if◌then◌else◌
+  unfolding known_deposit when◌then◌else◌
   known_stepped switch off e = rw (off, e) queue_stepped
 
   switched : {q r : Scalars} {u : Tables} (more : ℕ) → q ≡ queued → r ≡ scalars.with_deposits q (q.deposits + more)
       → Stepped (switch_to_compounding_validator S i) q (tables ids vs us ps cs) u r
       → Stepped (known_deposit S i amount true) s (tables ids vs ds ps cs) u r
-  unfolding known_deposit if◌then◌else◌
+  unfolding known_deposit when◌then◌else◌
   switched {q} {r} {u} more e grown d =
       let first : Stepped (queue_deposit i amount) s (tables ids vs ds ps cs) (tables ids vs us ps cs) q =
       rw e queue_stepped in
@@ -271,10 +271,10 @@ module _ (S : Settings) (s : Scalars) (t : Tables) (public_key withdrawal_creden
     (valid : Bool) (i : ℕ) (found : i ≡ position public_key (books_of s t).validators) where
   by_parts : apply_deposit S public_key withdrawal_credentials amount valid (books_of s t)
       ≡ (let p = position public_key (books_of s t).validators in
-      if ltb p (count (books_of s t))
+      when ltb p (count (books_of s t))
       then known_deposit S p amount (switches withdrawal_credentials valid (at (books_of s t).validators p))
       (books_of s t)
-      else if valid then add_validator_to_registry public_key withdrawal_credentials amount (books_of s t)
+      else when valid then add_validator_to_registry public_key withdrawal_credentials amount (books_of s t)
       else books_of s t)
   unfolding apply_deposit known_deposit
   by_parts = refl
@@ -290,7 +290,7 @@ module _ (S : Settings) (s : Scalars) (t : Tables) (public_key withdrawal_creden
 
   pub apply_unknown : {x : Books} → s.validators ≤ i
       → x
-      ≡ (if valid then add_validator_to_registry public_key withdrawal_credentials amount (books_of s t)
+      ≡ (when valid then add_validator_to_registry public_key withdrawal_credentials amount (books_of s t)
       else books_of s t)
       → x ≡ apply_deposit S public_key withdrawal_credentials amount valid (books_of s t)
   apply_unknown unknown e =

@@ -3,7 +3,7 @@
 #![tactic(auto)]
 
 ghost use Rattle.std.specs.Prelude.{◌≡◌, true, List, ℕ, ◌+◌, ◌<◌, leb};
-ghost use Rattle.lists.specs.Base.{if◌then◌else◌};
+ghost use Rattle.lists.specs.Base.{when◌then◌else◌};
 ghost use Rattle.rules.specs.Types as rule;
 ghost use Rattle.rules.specs.Helpers.{has_eth1_withdrawal_credential};
 ghost use Rattle.rules.specs.BlockProcessing.{switches, apply_deposit, get_validator_from_deposit};
@@ -48,7 +48,7 @@ fn switches(withdrawal_credentials: [u8; 32], valid: bool, v: Validator) -> bool
 
 // How many entries a switch of validator v queues.
 fn queued_by_switch(settings: Settings, v: Validator, switch: bool) -> usize
-    ensures { result ≡ (if switch then excess_entry_count settings.min_activation_balance.0 v.balance.0 else 0) }
+    ensures { result ≡ (when switch then excess_entry_count settings.min_activation_balance.0 v.balance.0 else 0) }
 {
     if !switch {
         return 0;

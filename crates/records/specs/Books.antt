@@ -1,7 +1,7 @@
 -- The books that scalars and tables hold, and what functions on them promise.
 use Rattle.std.specs.Prelude.{◌≡◌, refl, List, ℕ, ◌*◌, ◌≤◌, min}
 use Rattle.std.proofs.Common.{◌∙◌, arith, ne_eqb}
-use Rattle.lists.specs.Base.{if◌then◌else◌}
+use Rattle.lists.specs.Base.{when◌then◌else◌}
 use Rattle.tables.specs.Rows.{rows}
 use Rattle.rules.specs.Types as rule
 use Rattle.rules.specs.Calls.{Operation, Room, Call, answer, after, done, result}
@@ -147,7 +147,7 @@ beyond_then {r} {q} {t} {u} {w} m f g = record {
 -- a refusal with the number n
 pub refusal : {S : rule.Settings} {op : Operation} {s : Scalars} {t : Tables} {n : ℕ}
     → n ≡ answer S (books_of s t) (call_on t op) → (n ≡ 0 → ⊥) → Called S op s t t n s
-unfolding after done if◌then◌else◌
+unfolding after done when◌then◌else◌
 refusal {S} {op} {s} {t} {n} h z = record {
   number = h;
   books = rw (← h) (rw (ne_eqb n 0 z));
@@ -158,7 +158,7 @@ refusal {S} {op} {s} {t} {n} h z = record {
 -- a call that is done
 pub success : {S : rule.Settings} {op : Operation} {s r : Scalars} {t u : Tables}
     → 0 ≡ answer S (books_of s t) (call_on t op) → Stepped (λ b. result S b op) s t u r → Called S op s t u 0 r
-unfolding after done if◌then◌else◌
+unfolding after done when◌then◌else◌
 success {S} {op} {s} {r} {t} {u} h d = record {
   number = h;
   books = rw (← h) d.books;

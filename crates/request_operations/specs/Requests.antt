@@ -6,7 +6,7 @@ use Rattle.std.proofs.Math.Bool.{true, not}
 use native.Mathlib.Omega.{arith}
 use Rattle.std.proofs.Math.Dec.{leb, eqb}
 use Rattle.std.proofs.lemmas.Bool.{lt-leb}
-use Rattle.lists.specs.Base.{if◌then◌else◌, same_bytes}
+use Rattle.lists.specs.Base.{when◌then◌else◌, same_bytes}
 use Rattle.lists.specs.Laws.{both, join}
 use Rattle.tables.specs.Totals.{total_at_most}
 use Rattle.rules.specs.Types.{FAR, BOUND, Settings, Validator, PendingPartialWithdrawal, Books}
@@ -35,9 +35,9 @@ use Rattle.call_answers.specs.Tests.{fails, passes}
 -- validator v may request a withdrawal from this address
 unfoldable pub may_request : Settings → (current_epoch : ℕ) → Validator → List ℕ → Bool
 may_request S current_epoch v source_address =
-    if not (has_execution_withdrawal_credential v && same_bytes (withdrawal_address v) source_address) then false
-    else if not (is_active_validator current_epoch v) then false
-    else if not (eqb v.exit_epoch FAR) then false
+    when not (has_execution_withdrawal_credential v && same_bytes (withdrawal_address v) source_address) then false
+    else when not (is_active_validator current_epoch v) then false
+    else when not (eqb v.exit_epoch FAR) then false
     else not (ltb current_epoch (v.activation_epoch + S.shard_committee_period))
 
 -- a balance of which something can be withdrawn
@@ -62,8 +62,8 @@ excess_above S v pending e =
 
 -- the third of four tests that passed
 third : (p q r s : Bool)
-    → (if not p then false else if not q then false else if not r then false else not s) ≡ true → r ≡ true
-unfolding if◌then◌else◌
+    → (when not p then false else when not q then false else when not r then false else not s) ≡ true → r ≡ true
+unfolding when◌then◌else◌
 third true true true s e = refl
 third true true false s e = e
 third true false r s e = cc
@@ -98,7 +98,7 @@ not_later x y = go (ltb y x) refl
 -- ---- steps
 
 unfoldable pub request_full_exit : Settings → ℕ → Books → Books
-request_full_exit S i b = if eqb (get_pending_balance_to_withdraw b i) 0 then initiate_validator_exit S i b else b
+request_full_exit S i b = when eqb (get_pending_balance_to_withdraw b i) 0 then initiate_validator_exit S i b else b
 
 -- where the assignment is known
 unfoldable pub queue_with : Settings → (i amount : ℕ) → Assignment → Books → Books
@@ -118,9 +118,9 @@ queue_partial_withdrawal S i amount b = queue_with S i amount (compute_exit_epoc
 
 -- four tests that each leave x
 four : {A : Type 0} (p q r s : Bool) (x y : A)
-    → (if not p then x else if not q then x else if not r then x else if s then x else y)
-    ≡ (if not (if not p then false else if not q then false else if not r then false else not s) then x else y)
-unfolding if◌then◌else◌
+    → (when not p then x else when not q then x else when not r then x else when s then x else y)
+    ≡ (when not (when not p then false else when not q then false else when not r then false else not s) then x else y)
+unfolding when◌then◌else◌
 four false q r s x y = refl
 four true false r s x y = refl
 four true true false s x y = refl
@@ -132,29 +132,29 @@ module _ (S : Settings) (b : Books) where
       → request_partial_withdrawal S i amount b
       ≡ (let v = at b.validators i in
       let pending = get_pending_balance_to_withdraw b i in
-      if has_excess S v pending then queue_partial_withdrawal S i (to_withdraw S v pending amount) b else b)
+      when has_excess S v pending then queue_partial_withdrawal S i (to_withdraw S v pending amount) b else b)
   unfolding request_partial_withdrawal has_excess queue_with queue_partial_withdrawal to_withdraw
   partial_by_parts i amount = refl
 
   request_by_parts : (source_address public_key : List ℕ) (amount : ℕ)
       → process_execution_layer_withdrawal_request S source_address public_key amount b
       ≡ (let i = position public_key b.validators in
-      if eqb (length b.pending_partial_withdrawals) S.pending_partial_withdrawals_limit && not (eqb amount 0)
+      when eqb (length b.pending_partial_withdrawals) S.pending_partial_withdrawals_limit && not (eqb amount 0)
       then b
-      else if not (ltb i (count b)) then b
-      else if not (may_request S b.epoch (at b.validators i) source_address) then b
-      else if eqb amount 0 then request_full_exit S i b
+      else when not (ltb i (count b)) then b
+      else when not (may_request S b.epoch (at b.validators i) source_address) then b
+      else when eqb amount 0 then request_full_exit S i b
       else request_partial_withdrawal S i amount b)
   unfolding process_execution_layer_withdrawal_request may_request request_full_exit
   request_by_parts source_address public_key amount =
       let i = position public_key b.validators in
       let v = at b.validators i in
-      let rest : Books = if eqb amount 0 then request_full_exit S i b else request_partial_withdrawal S i amount b in
+      let rest : Books = when eqb amount 0 then request_full_exit S i b else request_partial_withdrawal S i amount b in
       ap
       (λ (x : Books).
-      if eqb (length b.pending_partial_withdrawals) S.pending_partial_withdrawals_limit && not (eqb amount 0)
+      when eqb (length b.pending_partial_withdrawals) S.pending_partial_withdrawals_limit && not (eqb amount 0)
       then b
-      else if not (ltb i (count b)) then b
+      else when not (ltb i (count b)) then b
       else x)
       (four (has_execution_withdrawal_credential v && same_bytes (withdrawal_address v) source_address)
       (is_active_validator b.epoch v) (eqb v.exit_epoch FAR)
@@ -167,13 +167,13 @@ module _ (S : Settings) (s : Scalars) (t : Tables) (source_address public_key : 
   -- what the request comes to where the queue has room for it
   abbrev requested : Books
   requested =
-      if not (ltb i s.validators) then books_of s t
-      else if not (may_request S s.epoch.0 (at (books_of s t).validators i) source_address) then books_of s t
-      else if eqb amount 0 then request_full_exit S i (books_of s t)
+      when not (ltb i s.validators) then books_of s t
+      else when not (may_request S s.epoch.0 (at (books_of s t).validators i) source_address) then books_of s t
+      else when eqb amount 0 then request_full_exit S i (books_of s t)
       else request_partial_withdrawal S i amount (books_of s t)
 
   pub request_read : {x : Books}
-      → x ≡ (if eqb s.partials S.pending_partial_withdrawals_limit && not (eqb amount 0) then books_of s t
+      → x ≡ (when eqb s.partials S.pending_partial_withdrawals_limit && not (eqb amount 0) then books_of s t
       else requested)
       → x ≡ process_execution_layer_withdrawal_request S source_address public_key amount (books_of s t)
   unfolding books_of
@@ -185,7 +185,7 @@ module _ (S : Settings) (s : Scalars) (t : Tables) (i : ℕ) (known : i < s.vali
     (read : v ≡ validator_at t.identities t.validators i)
     (owed : pending ≡ get_pending_balance_to_withdraw (books_of s t) i) (amount : ℕ) where
   partial_read : {x : Books}
-      → x ≡ (if has_excess S v pending
+      → x ≡ (when has_excess S v pending
       then queue_partial_withdrawal S i (to_withdraw S v pending amount) (books_of s t)
       else books_of s t)
       → x ≡ request_partial_withdrawal S i amount (books_of s t)

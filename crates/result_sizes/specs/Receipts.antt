@@ -3,7 +3,7 @@ use Rattle.std.specs.Prelude.{◌≡◌, refl, Bool, true, ◌&&◌, List, [], �
 use Rattle.std.proofs.Math.Path.{ap}
 use Rattle.std.proofs.Common.{ap₂, ◌∙◌, arith, length-append, le-leb}
 use Rattle.std.proofs.Math.Dec.{leb}
-use Rattle.lists.specs.Base.{if◌then◌else◌, all}
+use Rattle.lists.specs.Base.{when◌then◌else◌, all}
 use Rattle.lists.specs.Laws.{by_test, and_true, every_append}
 use Rattle.rules.specs.Types.{BOUND, Settings, PendingBalanceDeposit, Books}
 use Rattle.rules.specs.Helpers.{count, queue_deposit}
@@ -23,7 +23,7 @@ module _ (S : Settings) (b : Books) (k : SoundBooks S b) where
 
   abbrev known : (i amount : ℕ) → Bool → Books
   known i amount t =
-      if t then switch_to_compounding_validator S i (queue_deposit i amount b) else queue_deposit i amount b
+      when t then switch_to_compounding_validator S i (queue_deposit i amount b) else queue_deposit i amount b
 
   queued_steady : (i amount : ℕ) → Steady b (queue_deposit i amount b)
   queued_steady i amount = beside b (queue_deposit i amount b) refl refl refl refl refl refl
@@ -36,10 +36,10 @@ module _ (S : Settings) (b : Books) (k : SoundBooks S b) where
 
   pub known_queue : (i amount : ℕ) (t : Bool) → i < count b
       → length (known i amount t).pending_balance_deposits
-      ≡ length b.pending_balance_deposits + 1 + length (if t then excess_entry S i b else [])
+      ≡ length b.pending_balance_deposits + 1 + length (when t then excess_entry S i b else [])
   known_queue i amount t h =
       let entry : PendingBalanceDeposit = record { index = i; amount = amount } in
-      let rest : List PendingBalanceDeposit = if t then excess_entry S i b else [] in
+      let rest : List PendingBalanceDeposit = when t then excess_entry S i b else [] in
       ap length (known_flow S b i amount t h).order
       ∙ length-append b.pending_balance_deposits (entry ∷ rest)
       ∙ omega arith
@@ -47,7 +47,7 @@ module _ (S : Settings) (b : Books) (k : SoundBooks S b) where
   pub known_size : (i amount : ℕ) (t : Bool) → i < count b
       → size_refusal S (known i amount t)
       ≡ size_number
-      (leb (length b.pending_balance_deposits + 1 + length (if t then excess_entry S i b else []))
+      (leb (length b.pending_balance_deposits + 1 + length (when t then excess_entry S i b else []))
       S.pending_balance_deposits_limit)
       (leb (held b + amount) BOUND) true
   known_size i amount t h =

@@ -1,7 +1,7 @@
 -- The three tests of a result's size, where only one part of a test can fail.
 use Rattle.std.specs.Prelude.{◌≡◌, Bool, true, false, ℕ, ◌≤◌, length, leb}
 use Rattle.std.proofs.Common.{le-leb}
-use Rattle.lists.specs.Base.{if◌then◌else◌, all, every}
+use Rattle.lists.specs.Base.{when◌then◌else◌, all, every}
 use Rattle.lists.specs.Laws.{and_true}
 use Rattle.rules.specs.Types.{BOUND, Settings, Books}
 use Rattle.rules.specs.Helpers.{count}
@@ -18,7 +18,7 @@ size_number true true true = 0
 
 pub size_by : (S : Settings) (e : Books) (p q r : Bool) → within_limits S e ≡ p → sums_within e ≡ q
     → all_epochs_within e ≡ r → size_refusal S e ≡ size_number p q r
-unfolding size_refusal if◌then◌else◌
+unfolding size_refusal when◌then◌else◌
 size_by S e false q r h₁ h₂ h₃ = rw h₁
 size_by S e true false r h₁ h₂ h₃ = rw (h₁, h₂)
 size_by S e true true false h₁ h₂ h₃ = rw (h₁, h₂, h₃)

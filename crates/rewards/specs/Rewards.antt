@@ -2,7 +2,7 @@
 use Rattle.std.specs.Prelude.{◌≡◌, false, List, ℕ, ◌+◌, ◌≤◌, ◌<◌, ◌^◌, ltb}
 use Rattle.std.proofs.Common.{sym, ◌∙◌, arith, lt-ltb, le-ltb, le-leb}
 use Rattle.std.proofs.lemmas.Bool.{lt-leb}
-use Rattle.lists.specs.Base.{if◌then◌else◌}
+use Rattle.lists.specs.Base.{when◌then◌else◌}
 use Rattle.rules.specs.Types as rule
 use Rattle.rules.specs.Types.{BOUND}
 use Rattle.rules.specs.Helpers.{count, increased, decreased}
@@ -42,19 +42,19 @@ module _ (S : rule.Settings) (s : Scalars) (t : Tables) (i amount : ℕ)
   -- ---- no such validator
 
   pub reward_unknown : s.validators ≤ i → Called S (reward i amount) s t t 10 s
-  unfolding own_refusal if◌then◌else◌
+  unfolding own_refusal when◌then◌else◌
   reward_unknown p = own_refused S (reward i amount) s t 10 h (rw (outside p)) (omega arith)
 
   pub penalty_unknown : s.validators ≤ i → Called S (penalty i amount) s t t 10 s
-  unfolding own_refusal if◌then◌else◌
+  unfolding own_refusal when◌then◌else◌
   penalty_unknown p = own_refused S (penalty i amount) s t 10 h (rw (outside p)) (omega arith)
 
   known_reward : i < s.validators → own_refusal S (books_of s t) (reward i amount) ≡ 0
-  unfolding own_refusal if◌then◌else◌
+  unfolding own_refusal when◌then◌else◌
   known_reward p = rw (lt-ltb i (count (books_of s t)) (inside p))
 
   known_penalty : i < s.validators → own_refusal S (books_of s t) (penalty i amount) ≡ 0
-  unfolding own_refusal if◌then◌else◌
+  unfolding own_refusal when◌then◌else◌
   known_penalty p = rw (lt-ltb i (count (books_of s t)) (inside p))
 
   -- ---- the sum

@@ -1,7 +1,7 @@
 -- Bounds of the churn limits and of the epoch assignment: no divisor is 0, and what is left is small.
 use Rattle.std.specs.Prelude.{◌≡◌, refl, true, List, [], ◌∷◌, ℕ, zero, suc, ◌+◌, ◌-◌, ◌*◌, ◌/◌, ◌%◌, ◌^◌, ◌≤◌, ◌<◌, max, length, leb, ltb}
 use Rattle.std.proofs.Common.{div-mul-le_self, div-le_self, mod-lt, div-add-mod', arith, ltb-true, leb-true}
-use Rattle.lists.specs.Base.{if◌then◌else◌, total, every}
+use Rattle.lists.specs.Base.{when◌then◌else◌, total, every}
 use Rattle.lists.specs.Laws.{by_test, both}
 use Rattle.rules.specs.Types.{Settings, Validator, Books}
 use Rattle.rules.specs.Helpers.{count, active_effective_balance, get_total_active_balance, get_balance_churn_limit}
@@ -71,12 +71,12 @@ pub assigned_left : (left earliest_epoch activation_exit_epoch churn amount : �
 unfolding assign_epoch
 assigned_left left earliest_epoch activation_exit_epoch churn amount =
     by_test
-    (λ (n : ℕ). n + (if ltb n amount then (amount - n - 1) / churn + 1 else 0) * churn - amount ≤ max left churn) _
+    (λ (n : ℕ). n + (when ltb n amount then (amount - n - 1) / churn + 1 else 0) * churn - amount ≤ max left churn) _
     (λ e. rest churn (omega arith))
     (λ e. rest left (omega arith))
   where
     rest : (n : ℕ) → n ≤ max left churn
-        → n + (if ltb n amount then (amount - n - 1) / churn + 1 else 0) * churn - amount ≤ max left churn
+        → n + (when ltb n amount then (amount - n - 1) / churn + 1 else 0) * churn - amount ≤ max left churn
     rest n h = by_test (λ (k : ℕ). n + k * churn - amount ≤ max left churn) (ltb n amount)
         (λ e. omega (arith, ltb-true n amount e, div-mul-le_self (amount - n - 1) churn))
         (λ e. omega arith)
@@ -88,13 +88,13 @@ pub assigned_epoch : (left earliest_epoch activation_exit_epoch churn amount : �
 unfolding assign_epoch
 assigned_epoch left earliest_epoch activation_exit_epoch churn amount =
     let start = max earliest_epoch activation_exit_epoch in
-    by_test (λ (n : ℕ). start + (if ltb n amount then (amount - n - 1) / churn + 1 else 0) ≤ start + amount)
+    by_test (λ (n : ℕ). start + (when ltb n amount then (amount - n - 1) / churn + 1 else 0) ≤ start + amount)
     (ltb earliest_epoch start)
     (λ e. rest churn)
     (λ e. rest left)
   where
     rest : (n : ℕ)
-        → max earliest_epoch activation_exit_epoch + (if ltb n amount then (amount - n - 1) / churn + 1 else 0)
+        → max earliest_epoch activation_exit_epoch + (when ltb n amount then (amount - n - 1) / churn + 1 else 0)
         ≤ max earliest_epoch activation_exit_epoch + amount
     rest n =
         let start = max earliest_epoch activation_exit_epoch in

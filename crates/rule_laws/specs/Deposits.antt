@@ -1,7 +1,7 @@
 -- The deposit loop as what it credits and what it leaves waiting.
 use Rattle.std.specs.Prelude.{◌≡◌, refl, Bool, true, false, List, [], ◌∷◌, ◌++◌, ℕ, ◌+◌, ◌-◌, ◌≤◌, ◌<◌, length, drop, ltb}
 use Rattle.std.proofs.Common.{ap, ◌∙◌, zero-add, arith, ltb-true, ltb-false}
-use Rattle.lists.specs.Base.{if◌then◌else◌, adjust, total, every, empty}
+use Rattle.lists.specs.Base.{when◌then◌else◌, adjust, total, every, empty}
 use Rattle.lists.specs.Laws.{by_test, both, join, length_adjust, total_adjust, every_adjust}
 use Rattle.rules.specs.Types.{Settings, Validator, PendingBalanceDeposit, Books}
 use Rattle.rules.specs.Update.{with_deposit_balance_to_consume, with_validators, with_pending_balance_deposits}
@@ -98,7 +98,7 @@ deposited spent paid ds vs = record {
 
 pub process_deposits_form : (available spent : ℕ) (ds : List PendingBalanceDeposit) (vs : List Validator)
     → process_deposits available spent ds vs ≡ deposited spent (affordable available spent ds) ds vs
-unfolding process_deposits if◌then◌else◌
+unfolding process_deposits when◌then◌else◌
 process_deposits_form available spent [] vs =
     λ i. record { validators = vs; waiting = []; processed_amount = same i }
   where
@@ -113,8 +113,8 @@ process_deposits_form available spent (d ∷ ds) vs =
   where
     go : (t : Bool) (next : Deposited) (paid : List PendingBalanceDeposit)
         → next ≡ deposited (spent + d.amount) paid ds (adjust d.index (increased d.amount) vs)
-        → (if t then record { validators = vs; waiting = d ∷ ds; processed_amount = spent } else next)
-        ≡ deposited spent (if t then [] else d ∷ paid) (d ∷ ds) vs
+        → (when t then record { validators = vs; waiting = d ∷ ds; processed_amount = spent } else next)
+        ≡ deposited spent (when t then [] else d ∷ paid) (d ∷ ds) vs
     go true next paid e = λ i. record { validators = vs; waiting = d ∷ ds; processed_amount = same i }
       where
         same : spent ≡ spent + 0
@@ -142,7 +142,7 @@ waiting_still S b = drop (length (credited_now S b)) b.pending_balance_deposits
 abbrev pub carry_over : Settings → Books → ℕ
 carry_over S b =
     let available = b.deposit_balance_to_consume + get_activation_exit_churn_limit S b in
-    if empty (waiting_still S b) then 0 else available - deposit_amounts (credited_now S b)
+    when empty (waiting_still S b) then 0 else available - deposit_amounts (credited_now S b)
 
 abbrev pub deposit_step : Settings → Books → Books
 deposit_step S b =
@@ -158,5 +158,5 @@ deposit_step_form S b =
     leaves : Deposited → Books
     leaves done =
         let available = b.deposit_balance_to_consume + get_activation_exit_churn_limit S b in
-        with_deposit_balance_to_consume (if empty done.waiting then 0 else available - done.processed_amount)
+        with_deposit_balance_to_consume (when empty done.waiting then 0 else available - done.processed_amount)
         (with_pending_balance_deposits done.waiting (with_validators done.validators b))

@@ -4,7 +4,7 @@ use Rattle.std.proofs.Math.Path.{refl, ap}
 use Rattle.std.proofs.Common.{sym, ap₂, ◌∙◌, append-nil, arith}
 use Prim.Native.Nat.{ℕ, ◌-◌, ◌≤◌, ◌<◌, min}
 use borrow.Author.Tests.{ltb-true, ltb-false, lt-ltb, le-ltb}
-use Rattle.lists.specs.Base.{if◌then◌else◌, adjust}
+use Rattle.lists.specs.Base.{when◌then◌else◌, adjust}
 use Rattle.lists.specs.Laws.{by_test, if_true, if_false, and_false, join}
 use Rattle.lists.specs.Laws.{length_adjust, read_adjust, adjust_adjust, adjust_same}
 use Rattle.rules.specs.Types.{Settings, Validator, PendingBalanceDeposit, PendingConsolidation, Books}
@@ -58,7 +58,7 @@ module _ (S : Settings) (i : ℕ) (b : Books) where
   queued n =
       let vs = adjust i with_compounding_prefix b.validators in
       let excess : PendingBalanceDeposit = record { index = i; amount = n - least } in
-      if ltb least n
+      when ltb least n
       then moved b (b.pending_balance_deposits ++ (excess ∷ [])) (adjust i (with_balance least) vs)
       else with_validators vs b
 
@@ -91,13 +91,13 @@ module _ (S : Settings) (i : ℕ) (b : Books) where
       ∙ queued_form (ltb least v.balance) refl h
 
 pub switch_form : (S : Settings) (i : ℕ) (b : Books) → switch_to_compounding_validator S i b
-    ≡ (if has_eth1_withdrawal_credential (at b.validators i) then switched_books S i b else b)
-unfolding switch_to_compounding_validator if◌then◌else◌
+    ≡ (when has_eth1_withdrawal_credential (at b.validators i) then switched_books S i b else b)
+unfolding switch_to_compounding_validator when◌then◌else◌
 switch_form S i b = go (has_eth1_withdrawal_credential (at b.validators i)) refl
   where
     go : (t : Bool) → has_eth1_withdrawal_credential (at b.validators i) ≡ t
-        → (if t then queue_excess_active_balance S i (prefixed S i b) else b)
-        ≡ (if t then switched_books S i b else b)
+        → (when t then queue_excess_active_balance S i (prefixed S i b) else b)
+        ≡ (when t then switched_books S i b else b)
     go true h = excess_form S i b h
     go false h = refl
 

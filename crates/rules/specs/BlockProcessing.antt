@@ -1,7 +1,7 @@
 -- The rules of electra/block_processing.rs. A rule that can refuse has its tests beside it, in the Rust's order: the
 -- number of the first that fails, or 0.
 use Rattle.std.specs.Prelude.{Bool, true, false, not, ◌&&◌, List, [], ◌∷◌, ◌++◌, ℕ, zero, suc, ◌+◌, ◌-◌, ◌%◌, min, length, drop, leb, ltb, eqb}
-use Rattle.lists.specs.Base.{if◌then◌else◌, adjust, empty, last, same_bytes}
+use Rattle.lists.specs.Base.{when◌then◌else◌, adjust, empty, last, same_bytes}
 use Rattle.rules.specs.Types.{FAR, Settings, Validator, Books}
 use Rattle.rules.specs.Types.{PendingPartialWithdrawal, PendingConsolidation, Withdrawal}
 use Rattle.rules.specs.Update.{with_exit, with_next_withdrawal, with_receipts_start, with_exit_churn}
@@ -40,15 +40,15 @@ partial_withdrawals S b index (suc room) (p ∷ ps) =
     } in
     let listed = withdrawal ∷ partial_withdrawals S b (suc index) room ps in
     let passed = partial_withdrawals S b index (suc room) ps in
-    if ltb b.epoch p.withdrawable_epoch then []
-    else if is_partial_payable S v then listed
+    when ltb b.epoch p.withdrawable_epoch then []
+    else when is_partial_payable S v then listed
     else passed
 
 -- what the sweep takes of a validator: all, what stands above its maximum, or nothing
 unfoldable pub sweep_amount : Settings → ℕ → Validator → ℕ
 sweep_amount S epoch v =
-    if is_fully_withdrawable_validator epoch v then v.balance
-    else if is_partially_withdrawable_validator S v then v.balance - get_validator_max_effective_balance S v
+    when is_fully_withdrawable_validator epoch v then v.balance
+    else when is_partially_withdrawable_validator S v then v.balance - get_validator_max_effective_balance S v
     else 0
 
 -- the sweep over `bound` validators from i on, around the registry, at most `room` withdrawals
@@ -67,7 +67,7 @@ sweep_withdrawals S b (suc bound) i index (suc room) =
     } in
     let listed = withdrawal ∷ sweep_withdrawals S b bound onward (suc index) room in
     let passed = sweep_withdrawals S b bound onward index (suc room) in
-    if ltb 0 amount then listed else passed
+    when ltb 0 amount then listed else passed
 
 -- the first part of the list; its length is the partial_withdrawals_count
 unfoldable pub expected_partial_withdrawals : Settings → Books → List Withdrawal
@@ -101,7 +101,7 @@ same_withdrawals (x ∷ xs) [] = false
 same_withdrawals (x ∷ xs) (y ∷ ys) = same_withdrawal x y && same_withdrawals xs ys
 
 unfoldable pub withdrawals_refusal : Settings → Books → List Withdrawal → ℕ
-withdrawals_refusal S b ws = if not (same_withdrawals ws (get_expected_withdrawals S b)) then 30 else 0
+withdrawals_refusal S b ws = when not (same_withdrawals ws (get_expected_withdrawals S b)) then 30 else 0
 
 -- each withdrawal decreases its validator's balance, in list order
 abbrev pub pay_withdrawals : List Withdrawal → List Validator → List Validator
@@ -114,12 +114,12 @@ no_withdrawal = record { index = 0; validator_index = 0; address = []; amount = 
 
 -- next_withdrawal_index
 unfoldable pub next_index : Books → List Withdrawal → ℕ
-next_index b ws = if empty ws then b.next_withdrawal_index else (last no_withdrawal ws).index + 1
+next_index b ws = when empty ws then b.next_withdrawal_index else (last no_withdrawal ws).index + 1
 
 -- next_withdrawal_validator_index: after a full list behind the last withdrawal's validator (place 3)
 unfoldable pub next_validator_index : Settings → Books → List Withdrawal → ℕ
 next_validator_index S b ws =
-    if eqb (length ws) S.max_withdrawals_per_payload
+    when eqb (length ws) S.max_withdrawals_per_payload
     then ((last no_withdrawal ws).validator_index + 1) % count b
     else (b.next_withdrawal_validator_index + S.max_validators_per_withdrawals_sweep) % count b
 
@@ -165,9 +165,9 @@ apply_deposit S public_key withdrawal_credentials amount valid b =
     let queued = queue_deposit i amount b in
     let added = add_validator_to_registry public_key withdrawal_credentials amount b in
     let switch = switches withdrawal_credentials valid (at b.validators i) in
-    if ltb i (count b)
-    then (if switch then switch_to_compounding_validator S i queued else queued)
-    else (if valid then added else b)
+    when ltb i (count b)
+    then (when switch then switch_to_compounding_validator S i queued else queued)
+    else (when valid then added else b)
 
 -- ---- process_voluntary_exit
 
@@ -175,13 +175,13 @@ apply_deposit S public_key withdrawal_credentials amount valid b =
 unfoldable pub voluntary_exit_refusal : Settings → Books → (i epoch : ℕ) → Bool → ℕ
 voluntary_exit_refusal S b i epoch valid =
     let v = at b.validators i in
-    if not (ltb i (count b)) then 10
-    else if not (is_active_validator b.epoch v) then 11
-    else if not (eqb v.exit_epoch FAR) then 12
-    else if ltb b.epoch epoch then 13
-    else if ltb b.epoch (v.activation_epoch + S.shard_committee_period) then 14
-    else if not (eqb (get_pending_balance_to_withdraw b i) 0) then 15
-    else if not valid then 16
+    when not (ltb i (count b)) then 10
+    else when not (is_active_validator b.epoch v) then 11
+    else when not (eqb v.exit_epoch FAR) then 12
+    else when ltb b.epoch epoch then 13
+    else when ltb b.epoch (v.activation_epoch + S.shard_committee_period) then 14
+    else when not (eqb (get_pending_balance_to_withdraw b i) 0) then 15
+    else when not valid then 16
     else 0
 
 unfoldable pub process_voluntary_exit : Settings → ℕ → Books → Books
@@ -204,7 +204,7 @@ request_partial_withdrawal S i amount b =
     let queued = with_pending_partial_withdrawals (b.pending_partial_withdrawals ++ (entry ∷ [])) b in
     let has_sufficient_effective_balance = leb S.min_activation_balance v.effective_balance in
     let has_excess_balance = ltb reserved v.balance in
-    if has_compounding_withdrawal_credential v && has_sufficient_effective_balance && has_excess_balance
+    when has_compounding_withdrawal_credential v && has_sufficient_effective_balance && has_excess_balance
     then with_exit_churn a.left a.epoch queued
     else b
 
@@ -215,14 +215,14 @@ process_execution_layer_withdrawal_request S source_address public_key amount b 
     let full_exit = eqb amount 0 in
     let i = position public_key b.validators in
     let v = at b.validators i in
-    let exited = if eqb (get_pending_balance_to_withdraw b i) 0 then initiate_validator_exit S i b else b in
-    if eqb (length b.pending_partial_withdrawals) S.pending_partial_withdrawals_limit && not full_exit then b
-    else if not (ltb i (count b)) then b
-    else if not (has_execution_withdrawal_credential v && same_bytes (withdrawal_address v) source_address) then b
-    else if not (is_active_validator b.epoch v) then b
-    else if not (eqb v.exit_epoch FAR) then b
-    else if ltb b.epoch (v.activation_epoch + S.shard_committee_period) then b
-    else if full_exit then exited
+    let exited = when eqb (get_pending_balance_to_withdraw b i) 0 then initiate_validator_exit S i b else b in
+    when eqb (length b.pending_partial_withdrawals) S.pending_partial_withdrawals_limit && not full_exit then b
+    else when not (ltb i (count b)) then b
+    else when not (has_execution_withdrawal_credential v && same_bytes (withdrawal_address v) source_address) then b
+    else when not (is_active_validator b.epoch v) then b
+    else when not (eqb v.exit_epoch FAR) then b
+    else when ltb b.epoch (v.activation_epoch + S.shard_committee_period) then b
+    else when full_exit then exited
     else request_partial_withdrawal S i amount b
 
 -- ---- process_deposit_receipt
@@ -231,7 +231,7 @@ process_execution_layer_withdrawal_request S source_address public_key amount b 
 abbrev pub start_receipts : ℕ → Books → Books
 start_receipts index b =
     let start = b.deposit_receipts_start_index in
-    with_receipts_start (if eqb start FAR then index else start) b
+    with_receipts_start (when eqb start FAR then index else start) b
 
 unfoldable pub process_deposit_receipt : Settings
     → (public_key withdrawal_credentials : List ℕ) (amount index : ℕ) → Bool → Books → Books
@@ -244,20 +244,20 @@ unfoldable pub consolidation_refusal : Settings → Books → (source_index targ
 consolidation_refusal S b source_index target_index epoch valid =
     let source = at b.validators source_index in
     let target = at b.validators target_index in
-    if leb S.pending_consolidations_limit (length b.pending_consolidations) then 20
-    else if leb (get_consolidation_churn_limit S b) S.min_activation_balance then 21
-    else if eqb source_index target_index then 22
-    else if not (ltb source_index (count b)) then 10
-    else if not (ltb target_index (count b)) then 10
-    else if not (is_active_validator b.epoch source) then 11
-    else if not (is_active_validator b.epoch target) then 11
-    else if not (eqb source.exit_epoch FAR) then 12
-    else if not (eqb target.exit_epoch FAR) then 12
-    else if ltb b.epoch epoch then 13
-    else if not (has_execution_withdrawal_credential source) then 23
-    else if not (has_execution_withdrawal_credential target) then 23
-    else if not (same_bytes (withdrawal_address source) (withdrawal_address target)) then 24
-    else if not valid then 16
+    when leb S.pending_consolidations_limit (length b.pending_consolidations) then 20
+    else when leb (get_consolidation_churn_limit S b) S.min_activation_balance then 21
+    else when eqb source_index target_index then 22
+    else when not (ltb source_index (count b)) then 10
+    else when not (ltb target_index (count b)) then 10
+    else when not (is_active_validator b.epoch source) then 11
+    else when not (is_active_validator b.epoch target) then 11
+    else when not (eqb source.exit_epoch FAR) then 12
+    else when not (eqb target.exit_epoch FAR) then 12
+    else when ltb b.epoch epoch then 13
+    else when not (has_execution_withdrawal_credential source) then 23
+    else when not (has_execution_withdrawal_credential target) then 23
+    else when not (same_bytes (withdrawal_address source) (withdrawal_address target)) then 24
+    else when not valid then 16
     else 0
 
 -- the source is withdrawable at its new exit epoch + delay (place 5)

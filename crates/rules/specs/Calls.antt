@@ -1,6 +1,6 @@
 -- The calls, their answers by number ("Answers by cause"), the books that a call leaves, and lists of calls.
 use Rattle.std.specs.Prelude.{Bool, not, List, [], ◌∷◌, ℕ, leb, ltb, eqb}
-use Rattle.lists.specs.Base.{if◌then◌else◌, all}
+use Rattle.lists.specs.Base.{when◌then◌else◌, all}
 use Rattle.rules.specs.Types.{BOUND, Settings, Withdrawal, Books}
 use Rattle.rules.specs.Helpers.{count, assign_epoch, increase_balance, decrease_balance}
 use Rattle.rules.specs.EpochProcessing as steps
@@ -44,15 +44,15 @@ enough_room S r = all
 -- what it is handed: 1, 3, 2 in this order
 unfoldable pub handed_refusal : Settings → Books → Room → ℕ
 handed_refusal S b r =
-    if not (sound_settings S) then 1
-    else if not (enough_room S r) then 3
-    else if not (sound_books S b) then 2
+    when not (sound_settings S) then 1
+    else when not (enough_room S r) then 3
+    else when not (sound_books S b) then 2
     else 0
 
 -- the number of the first of the call's own tests that fails; 0 where none does
 unfoldable pub own_refusal : Settings → Books → Operation → ℕ
-own_refusal S b (reward i amount) = if not (ltb i (count b)) then 10 else 0
-own_refusal S b (penalty i amount) = if not (ltb i (count b)) then 10 else 0
+own_refusal S b (reward i amount) = when not (ltb i (count b)) then 10 else 0
+own_refusal S b (penalty i amount) = when not (ltb i (count b)) then 10 else 0
 own_refusal S b (deposit_receipt public_key withdrawal_credentials amount index valid) = 0
 own_refusal S b (voluntary_exit i epoch valid) = block.voluntary_exit_refusal S b i epoch valid
 own_refusal S b (withdrawal_request source_address public_key amount) = 0
@@ -84,17 +84,17 @@ result S b effective_balance_updates = steps.process_effective_balance_updates S
 -- the result is too large: 40, 41, 42 in this order
 unfoldable pub size_refusal : Settings → Books → ℕ
 size_refusal S e =
-    if not (within_limits S e) then 40
-    else if not (sums_within e) then 41
-    else if not (all_epochs_within e) then 42
+    when not (within_limits S e) then 40
+    else when not (sums_within e) then 41
+    else when not (all_epochs_within e) then 42
     else 0
 
 unfoldable pub answer : Settings → Books → Call → ℕ
 answer S b c =
     let handed = handed_refusal S b c.room in
     let own = own_refusal S b c.operation in
-    if not (eqb handed 0) then handed
-    else if not (eqb own 0) then own
+    when not (eqb handed 0) then handed
+    else when not (eqb own 0) then own
     else size_refusal S (result S b c.operation)
 
 unfoldable pub done : Settings → Books → Call → Bool
@@ -102,7 +102,7 @@ done S b c = eqb (answer S b c) 0
 
 -- the books that a call leaves; a refused one leaves all as it was
 unfoldable pub after : Settings → Books → Call → Books
-after S b c = if done S b c then result S b c.operation else b
+after S b c = when done S b c then result S b c.operation else b
 
 -- ---- a list of calls, each on the books that the last one left
 
@@ -119,6 +119,6 @@ answers S b (c ∷ cs) = answer S b c ∷ answers S (after S b c) cs
 -- its answer, from any five numbers: FAR is over the bound here too
 unfoldable pub assignment_answer : (left earliest_epoch activation_exit_epoch churn amount : ℕ) → ℕ
 assignment_answer left earliest_epoch activation_exit_epoch churn amount =
-    if eqb churn 0 then 50
-    else if ltb BOUND (assign_epoch left earliest_epoch activation_exit_epoch churn amount).epoch then 42
+    when eqb churn 0 then 50
+    else when ltb BOUND (assign_epoch left earliest_epoch activation_exit_epoch churn amount).epoch then 42
     else 0

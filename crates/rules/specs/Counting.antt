@@ -1,6 +1,6 @@
 -- What each call counts, on the books that it is made on, and a list of calls ("Counting for demand 3").
 use Rattle.std.specs.Prelude.{Bool, ◌&&◌, List, [], ◌∷◌, ◌++◌, ℕ, ◌+◌, ◌-◌, min, ltb, eqb}
-use Rattle.lists.specs.Base.{if◌then◌else◌, adjust}
+use Rattle.lists.specs.Base.{when◌then◌else◌, adjust}
 use Rattle.rules.specs.Types.{Settings, Validator, Withdrawal, Books}
 use Rattle.rules.specs.Types.{PendingBalanceDeposit, PendingConsolidation}
 use Rattle.rules.specs.Helpers.{at, count, position, decreased}
@@ -53,14 +53,14 @@ unfoldable pub excess_entry : Settings → ℕ → Books → List PendingBalance
 excess_entry S i b =
     let v = at b.validators i in
     let excess = v.balance - S.min_activation_balance in
-    if has_eth1_withdrawal_credential v && ltb 0 excess then record { index = i; amount = excess } ∷ [] else []
+    when has_eth1_withdrawal_credential v && ltb 0 excess then record { index = i; amount = excess } ∷ [] else []
 
 -- the entries before the first that would bring their sum, with `spent` before them, over the limit, else all
 abbrev pub affordable : (limit spent : ℕ) → List PendingBalanceDeposit → List PendingBalanceDeposit
 affordable limit spent [] = []
 affordable limit spent (d ∷ ds) =
     let further = d ∷ affordable limit (spent + d.amount) ds in
-    if ltb limit (spent + d.amount) then [] else further
+    when ltb limit (spent + d.amount) then [] else further
 
 -- withdrawals in list order: each takes the smaller of its amount and the balance then
 abbrev pub paid_out : List Withdrawal → List Validator → ℕ
@@ -76,8 +76,8 @@ excess_entries S (c ∷ cs) b =
     let source = at b.validators c.source_index in
     let dropped = excess_entries S cs b in
     let consolidated = excess_entry S c.target_index b ++ excess_entries S cs (consolidate S c b) in
-    if eqb source.slashed 1 then dropped
-    else if ltb b.epoch source.withdrawable_epoch then []
+    when eqb source.slashed 1 then dropped
+    else when ltb b.epoch source.withdrawable_epoch then []
     else consolidated
 
 -- an unknown key and flag 0: nothing; any other receipt takes in its amount, queues its entry and any switch's excess
@@ -87,9 +87,9 @@ receipt_counts S b public_key withdrawal_credentials amount valid =
     let entry : PendingBalanceDeposit = record { index = i; amount = amount } in
     let added : PendingBalanceDeposit = record { index = count b; amount = amount } in
     let switch = switches withdrawal_credentials valid (at b.validators i) in
-    if ltb i (count b)
-    then takes_in amount (entry ∷ (if switch then excess_entry S i b else []))
-    else (if valid then takes_in amount (added ∷ []) else nothing)
+    when ltb i (count b)
+    then takes_in amount (entry ∷ (when switch then excess_entry S i b else []))
+    else (when valid then takes_in amount (added ∷ []) else nothing)
 
 unfoldable pub deposit_step_counts : Settings → Books → Counted
 deposit_step_counts S b =
@@ -116,7 +116,7 @@ counts S b calls.effective_balance_updates = nothing
 
 -- a refused call counts nothing
 unfoldable pub call_counts : Settings → Books → Call → Counted
-call_counts S b c = if done S b c then counts S b c.operation else nothing
+call_counts S b c = when done S b c then counts S b c.operation else nothing
 
 -- a list of calls, each on the books that the last one left
 abbrev pub counted : Settings → Books → List Call → Counted

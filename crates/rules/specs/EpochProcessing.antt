@@ -1,6 +1,6 @@
 -- The rules of electra/epoch_processing.rs, and the turn made of them.
 use Rattle.std.specs.Prelude.{Bool, ◌||◌, List, [], ◌∷◌, map, ℕ, ◌+◌, ◌-◌, ◌*◌, ◌/◌, ◌%◌, min, ltb, eqb}
-use Rattle.lists.specs.Base.{if◌then◌else◌, adjust, empty}
+use Rattle.lists.specs.Base.{when◌then◌else◌, adjust, empty}
 use Rattle.rules.specs.Types.{Settings, Validator, PendingBalanceDeposit, PendingConsolidation, Books}
 use Rattle.rules.specs.Update.{with_effective_balance, with_epoch, with_deposit_balance_to_consume}
 use Rattle.rules.specs.Update.{with_validators, with_pending_balance_deposits, with_pending_consolidations}
@@ -25,13 +25,13 @@ process_deposits available processed_amount (d ∷ ds) vs =
     let sum = processed_amount + d.amount in
     let credited = process_deposits available sum ds (adjust d.index (increased d.amount) vs) in
     let stopped : Deposited = record { validators = vs; waiting = d ∷ ds; processed_amount = processed_amount } in
-    if ltb available sum then stopped else credited
+    when ltb available sum then stopped else credited
 
 unfoldable pub process_pending_balance_deposits : Settings → Books → Books
 process_pending_balance_deposits S b =
     let available = b.deposit_balance_to_consume + get_activation_exit_churn_limit S b in
     let done = process_deposits available 0 b.pending_balance_deposits b.validators in
-    let carry = if empty done.waiting then 0 else available - done.processed_amount in
+    let carry = when empty done.waiting then 0 else available - done.processed_amount in
     with_deposit_balance_to_consume carry
     (with_pending_balance_deposits done.waiting (with_validators done.validators b))
 
@@ -55,8 +55,8 @@ process_consolidations S (c ∷ cs) b =
     let source = at b.validators c.source_index in
     let dropped = process_consolidations S cs b in
     let consolidated = process_consolidations S cs (consolidate S c b) in
-    if eqb source.slashed 1 then dropped
-    else if ltb b.epoch source.withdrawable_epoch then with_pending_consolidations (c ∷ cs) b
+    when eqb source.slashed 1 then dropped
+    else when ltb b.epoch source.withdrawable_epoch then with_pending_consolidations (c ∷ cs) b
     else consolidated
 
 unfoldable pub process_pending_consolidations : Settings → Books → Books
@@ -77,7 +77,7 @@ unfoldable pub updated : Settings → Validator → Validator
 updated S v =
     let rounded = v.balance - v.balance % S.effective_balance_increment in
     let effective_balance = min rounded (get_validator_max_effective_balance S v) in
-    with_effective_balance (if needs_update S v then effective_balance else v.effective_balance) v
+    with_effective_balance (when needs_update S v then effective_balance else v.effective_balance) v
 
 unfoldable pub process_effective_balance_updates : Settings → Books → Books
 process_effective_balance_updates S b = with_validators (map (updated S) b.validators) b

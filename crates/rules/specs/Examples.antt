@@ -1,6 +1,6 @@
 -- Settings, books and calls that the examples below are made of.
 use Rattle.std.specs.Prelude.{List, [], ◌∷◌, ◌++◌, ℕ, ◌^◌, replicate, set}
-use Rattle.lists.specs.Base.{if◌then◌else◌, all}
+use Rattle.lists.specs.Base.{when◌then◌else◌, all}
 use Rattle.rules.specs.Types.{FAR, Settings, Validator, Withdrawal, Books}
 use Rattle.rules.specs.Types.{PendingBalanceDeposit, PendingPartialWithdrawal, PendingConsolidation}
 use Rattle.rules.specs.Profiles.{settings_from, mainnet_row}
@@ -134,7 +134,7 @@ call o = record {
 
 unfoldable pub opened : ℕ
 unfolding
-    if◌then◌else◌ all helpers.is_fully_withdrawable_validator helpers.is_partially_withdrawable_validator
+    when◌then◌else◌ all helpers.is_fully_withdrawable_validator helpers.is_partially_withdrawable_validator
     helpers.get_total_active_balance helpers.get_balance_churn_limit helpers.get_activation_exit_churn_limit
     helpers.get_consolidation_churn_limit helpers.assign_epoch helpers.compute_exit_epoch_and_update_churn
     helpers.compute_consolidation_epoch_and_update_churn helpers.initiate_validator_exit

@@ -2,7 +2,7 @@
 -- total. They stand in the order of the Rust but where one needs another. S is the settings, b the books, v a
 -- validator, i the index of one.
 use Rattle.std.specs.Prelude.{Bool, ◌&&◌, ◌||◌, List, [], ◌∷◌, ◌++◌, ℕ, suc, ◌+◌, ◌-◌, ◌*◌, ◌/◌, ◌%◌, min, max, length, get_or, drop, set, leb, ltb, eqb}
-use Rattle.lists.specs.Base.{if◌then◌else◌, adjust, total, same_bytes}
+use Rattle.lists.specs.Base.{when◌then◌else◌, adjust, total, same_bytes}
 use Rattle.rules.specs.Types.{FAR, Settings, Validator, PendingBalanceDeposit, PendingPartialWithdrawal, Books}
 use Rattle.rules.specs.Update.{with_withdrawal_credentials, with_exit, with_balance}
 use Rattle.rules.specs.Update.{with_exit_churn, with_validators, with_pending_balance_deposits}
@@ -34,7 +34,7 @@ abbrev pub position : List ℕ → List Validator → ℕ
 position public_key [] = 0
 position public_key (v ∷ vs) =
     let further = suc (position public_key vs) in
-    if same_bytes public_key v.public_key then 0 else further
+    when same_bytes public_key v.public_key then 0 else further
 
 -- ---- credentials
 
@@ -64,7 +64,7 @@ has_execution_withdrawal_credential v = has_compounding_withdrawal_credential v 
 -- get_validator_max_effective_balance
 abbrev pub get_validator_max_effective_balance : Settings → Validator → ℕ
 get_validator_max_effective_balance S v =
-    if has_compounding_withdrawal_credential v then S.max_effective_balance_electra else S.min_activation_balance
+    when has_compounding_withdrawal_credential v then S.max_effective_balance_electra else S.min_activation_balance
 
 -- is_fully_withdrawable_validator
 unfoldable pub is_fully_withdrawable_validator : ℕ → Validator → Bool
@@ -107,7 +107,7 @@ abbrev pub is_active_validator : ℕ → Validator → Bool
 is_active_validator epoch v = leb v.activation_epoch epoch && ltb epoch v.exit_epoch
 
 abbrev pub active_effective_balance : ℕ → Validator → ℕ
-active_effective_balance epoch v = if is_active_validator epoch v then v.effective_balance else 0
+active_effective_balance epoch v = when is_active_validator epoch v then v.effective_balance else 0
 
 -- called only: the sum of active effective balances, at least one increment
 unfoldable pub get_total_active_balance : Settings → Books → ℕ
@@ -136,7 +136,7 @@ get_active_balance S v = min v.balance (get_validator_max_effective_balance S v)
 
 -- what a waiting partial withdrawal owes validator i
 abbrev pub owed_to : ℕ → PendingPartialWithdrawal → ℕ
-owed_to i p = if eqb p.index i then p.amount else 0
+owed_to i p = when eqb p.index i then p.amount else 0
 
 -- get_pending_balance_to_withdraw
 abbrev pub get_pending_balance_to_withdraw : Books → ℕ → ℕ
@@ -153,8 +153,8 @@ pub record Assignment : Type 0 where
 unfoldable pub assign_epoch : (left earliest_epoch activation_exit_epoch churn amount : ℕ) → Assignment
 assign_epoch left earliest_epoch activation_exit_epoch churn amount =
     let start = max earliest_epoch activation_exit_epoch in
-    let to_consume = if ltb earliest_epoch start then churn else left in
-    let additional = if ltb to_consume amount then (amount - to_consume - 1) / churn + 1 else 0 in
+    let to_consume = when ltb earliest_epoch start then churn else left in
+    let additional = when ltb to_consume amount then (amount - to_consume - 1) / churn + 1 else 0 in
     record { left = to_consume + additional * churn - amount; epoch = start + additional }
 
 -- called only: compute_activation_exit_epoch
@@ -187,7 +187,7 @@ initiate_validator_exit S i b =
     let v = at b.validators i in
     let a = compute_exit_epoch_and_update_churn S b v.effective_balance in
     let exiting = with_exit a.epoch (a.epoch + S.min_validator_withdrawability_delay) in
-    if eqb v.exit_epoch FAR
+    when eqb v.exit_epoch FAR
     then with_exit_churn a.left a.epoch (with_validators (adjust i exiting b.validators) b)
     else b
 
@@ -199,7 +199,7 @@ queue_excess_active_balance S i b =
     let balance = (at b.validators i).balance in
     let excess_balance = balance - S.min_activation_balance in
     let reset = with_validators (adjust i (with_balance S.min_activation_balance) b.validators) b in
-    if ltb S.min_activation_balance balance then queue_deposit i excess_balance reset else b
+    when ltb S.min_activation_balance balance then queue_deposit i excess_balance reset else b
 
 -- byte 0 of the credentials becomes 02, and no other byte changes
 abbrev pub with_compounding_prefix : Validator → Validator
@@ -209,4 +209,4 @@ with_compounding_prefix v = with_withdrawal_credentials (set v.withdrawal_creden
 unfoldable pub switch_to_compounding_validator : Settings → ℕ → Books → Books
 switch_to_compounding_validator S i b =
     let compounding = with_validators (adjust i with_compounding_prefix b.validators) b in
-    if has_eth1_withdrawal_credential (at b.validators i) then queue_excess_active_balance S i compounding else b
+    when has_eth1_withdrawal_credential (at b.validators i) then queue_excess_active_balance S i compounding else b

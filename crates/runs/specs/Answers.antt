@@ -3,7 +3,7 @@ use Rattle.std.specs.Prelude.{◌≡◌, refl, true, false, List, ℕ, ◌*◌, 
 use Rattle.std.proofs.Math.Path.{sym, ap}
 use Rattle.std.proofs.Common.{◌∙◌, arith, ne_eqb, lt-ltb, le-ltb}
 use Rattle.std.proofs.Math.Option.{some, none}
-use Rattle.lists.specs.Base.{if◌then◌else◌}
+use Rattle.lists.specs.Base.{when◌then◌else◌}
 use Rattle.lists.specs.Laws.{if_true, if_false}
 use Rattle.rules.specs.Types as rule
 use Rattle.rules.specs.Calls.{handed_refusal}
@@ -32,12 +32,12 @@ module _ (S : rule.Settings) (s : Scalars) (t : Tables) (file : List ℕ) where
 
     pub books_refused : {n held count : ℕ} → n ≡ handed_refusal S (books_of s t) (room_of t) → (n ≡ 0 → ⊥)
         → Judged S s t file space n held count
-    unfolding carry_out_answer if◌then◌else◌
+    unfolding carry_out_answer when◌then◌else◌
     books_refused {n} e z = refused_with n (rw (← e) (rw (ne_eqb n 0 z))) z
 
     module _ (h : Accepted S s t) where
       listed : answer ≡ listed_answer space (read_calls file)
-      unfolding carry_out_answer if◌then◌else◌
+      unfolding carry_out_answer when◌then◌else◌
       listed = rw h
 
       pub file_refused : {n held count : ℕ} → n ≡ 60 → file_ok calls_format file ≡ false

@@ -2,7 +2,7 @@
 use Rattle.std.specs.Prelude.{◌≡◌, refl, not, List, ℕ, zero, suc, ◌*◌, length, ltb, eqb}
 use Rattle.std.proofs.Common.{sym, ◌∙◌, arith, ne_eqb}
 use Rattle.std.proofs.Math.Option.{Option, some, none}
-use Rattle.lists.specs.Base.{if◌then◌else◌}
+use Rattle.lists.specs.Base.{when◌then◌else◌}
 use Rattle.rules.specs.Types.{Settings, Books}
 use Rattle.rules.specs.Calls.{Operation, Room, handed_refusal, run}
 use Rattle.primitives.specs.declared.Scalars.{Scalars}
@@ -19,14 +19,14 @@ use Rattle.runs.specs.InPlace.{InPlace, calls_on, in_place_books, in_place_deman
 -- 60 where the file is no calls file, 61 where the results have room for less than three numbers a call
 abbrev pub listed_answer : (space : ℕ) → Option (List Operation) → ℕ
 listed_answer space none = 60
-listed_answer space (some os) = if ltb space (3 * length os) then 61 else 0
+listed_answer space (some os) = when ltb space (3 * length os) then 61 else 0
 
 -- the books first: 1, 3, 2
 unfoldable pub carry_out_answer : Settings → Books → Room → (file : List ℕ) → (space : ℕ) → ℕ
 carry_out_answer S b r file space =
     let handed = handed_refusal S b r in
     let listed = listed_answer space (read_calls file) in
-    if not (eqb handed 0) then handed else listed
+    when not (eqb handed 0) then handed else listed
 
 -- ---- the promise
 
@@ -57,8 +57,8 @@ module _ {S : Settings} {s r : Scalars} {t u : Tables} {os : List Operation} {be
 -- ---- no two outcomes
 
 -- what is answered 0 was read
-not_read : (h space : ℕ) → 0 ≡ (if not (eqb h 0) then h else listed_answer space none) → ⊥
-unfolding if◌then◌else◌
+not_read : (h space : ℕ) → 0 ≡ (when not (eqb h 0) then h else listed_answer space none) → ⊥
+unfolding when◌then◌else◌
 not_read zero space e = omega arith
 not_read (suc h) space e =
     let q = rw (ne_eqb (suc h) 0 (λ z. omega arith)) at e in

@@ -6,7 +6,7 @@ use Rattle.std.proofs.Math.Bool.{true, false}
 use native.Mathlib.Omega.{arith}
 use Rattle.std.proofs.Math.ListN.{get_or-eq_default}
 use Rattle.std.proofs.lemmas.Bool.{eqb-false}
-use Rattle.lists.specs.Base.{if◌then◌else◌}
+use Rattle.lists.specs.Base.{when◌then◌else◌}
 use Rattle.lists.specs.Laws.{if_true, if_false, by_test}
 use Rattle.rules.specs.Types.{BOUND, Settings, PendingBalanceDeposit, Books}
 use Rattle.rules.specs.Helpers.{at, count, position, no_validator}
@@ -49,7 +49,7 @@ abbrev pub done_sum : Operation → (sum taken waiting left anew : ℕ) → ℕ
 done_sum (calls.penalty i amount) sum taken waiting left anew = sum - taken
 done_sum (calls.reward i amount) sum taken waiting left anew = sum + amount
 done_sum (calls.deposit_receipt public_key withdrawal_credentials amount index valid) sum taken waiting left anew =
-    if eqb left waiting then sum else sum + amount
+    when eqb left waiting then sum else sum + amount
 done_sum (calls.voluntary_exit i epoch valid) sum taken waiting left anew = sum
 done_sum (calls.withdrawal_request source_address public_key amount) sum taken waiting left anew = sum
 done_sum (calls.consolidation source_index target_index epoch valid) sum taken waiting left anew = sum
@@ -61,7 +61,7 @@ done_sum calls.effective_balance_updates sum taken waiting left anew = sum
 
 -- the sum after a call that answered n: a refusal moves nothing
 unfoldable pub sum_after : Operation → (n sum taken waiting left anew : ℕ) → ℕ
-sum_after op n sum taken waiting left anew = if eqb n 0 then done_sum op sum taken waiting left anew else sum
+sum_after op n sum taken waiting left anew = when eqb n 0 then done_sum op sum taken waiting left anew else sum
 
 -- ---- demand 3 of one call that is done
 
@@ -128,7 +128,7 @@ module _ (S : Settings) (b e : Books) {sum waiting left anew : ℕ} (p : sum ≡
       → held e + k.taken_out ≡ held b + k.taken_in
       → length k.credited + length e.pending_balance_deposits
       ≡ length b.pending_balance_deposits + length k.queued
-      → (if eqb left waiting then sum else sum + amount) ≡ held e
+      → (when eqb left waiting then sum else sum + amount) ≡ held e
   receipt_sum k amount i m q =
       by_test (λ (n : ℕ). n ≡ held e) (eqb left waiting)
       (λ t.
@@ -179,10 +179,10 @@ module _ {S : Settings} {op : Operation} {s r : Scalars} {t u : Tables} {n : ℕ
   call_moved c z = rw c.books (moved S (books_of s t) (call_on t op) (sym c.number ∙ z))
 
   sum_followed : {sum : ℕ} → Called S op s t u n r → sum ≡ held (books_of s t) → (k : Bool) → eqb n 0 ≡ k
-      → (if k then done_sum op sum (penalty_taken op (books_of s t)) s.deposits r.deposits (held (books_of r u))
+      → (when k then done_sum op sum (penalty_taken op (books_of s t)) s.deposits r.deposits (held (books_of r u))
       else sum)
       ≡ held (books_of r u)
-  unfolding if◌then◌else◌
+  unfolding when◌then◌else◌
   sum_followed c p true e =
       done_sum_known S (books_of s t) (books_of r u) p (sym (deposits_count s t)) (sym (deposits_count r u)) refl op
       (call_moved c (eqb-true n 0 e))

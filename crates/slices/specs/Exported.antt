@@ -3,7 +3,7 @@ use Rattle.std.specs.Prelude.{◌≡◌, refl, Bool, true, false, not, ◌&&◌,
 use Rattle.std.proofs.Common.{ap, ◌∙◌, arith, leb-true, eq-eqb, ne_eqb}
 use Rattle.std.proofs.Math.Path.{sym}
 use Rattle.std.proofs.lemmas.Bool.{false≢true, not-true}
-use Rattle.lists.specs.Base.{if◌then◌else◌, all}
+use Rattle.lists.specs.Base.{when◌then◌else◌, all}
 use Rattle.lists.specs.Laws.{both, if_true, if_false, by_test, not_not, nth, and_true}
 use Rattle.rules.specs.Types as rule
 use Rattle.rules.specs.Acceptance.{sound_settings}
@@ -24,7 +24,7 @@ fit s others = all (leb 13 (length s) ∷ others)
 
 -- a slice of a wrong length is a short buffer: 3, after 1 and before 2
 unfoldable pub unfit_answer : rule.Settings → ℕ
-unfit_answer S = if not (sound_settings S) then 1 else 3
+unfit_answer S = when not (sound_settings S) then 1 else 3
 
 -- settings in xs; scalars in s at entry and in r at exit; tables t at entry and u at exit; the number n
 pub record Exported (xs : List ℕ) (op : Operation) (others : List Bool) (t u : Tables) (s r : List ℕ) (n : ℕ)
@@ -39,12 +39,12 @@ pub record Exported (xs : List ℕ) (op : Operation) (others : List Bool) (t u :
 -- their number
 unfoldable pub asked_answer : List ℕ → List Bool → Tables → List ℕ → ℕ
 asked_answer xs others t s =
-    if fit s others then handed_refusal (rules_in xs) (books_of (scalars_in s) t) (room_of t)
+    when fit s others then handed_refusal (rules_in xs) (books_of (scalars_in s) t) (room_of t)
     else unfit_answer (rules_in xs)
 
 -- what they leave in a lent result that held `old`: a refusal leaves it as it was
 unfoldable pub given : {A : Type 0} → ℕ → A → A → A
-given n x old = if eqb n 0 then x else old
+given n x old = when eqb n 0 then x else old
 
 -- ---- laws: f is the computed test of the slices' lengths
 

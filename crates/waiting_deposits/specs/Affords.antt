@@ -9,7 +9,7 @@ use native.Mathlib.Omega.{arith}
 use Rattle.std.proofs.Math.ListN.{length}
 use Rattle.std.proofs.Math.Dec.{ltb}
 use borrow.Author.Tests.{ltb-true, ltb-false, lt-ltb, le-ltb}
-use Rattle.lists.specs.Base.{if◌then◌else◌}
+use Rattle.lists.specs.Base.{when◌then◌else◌}
 use Rattle.rules.specs.Types as rule
 use Rattle.rules.specs.Acceptance.{deposit_amounts}
 use Rattle.rules.specs.Counting as counting
@@ -22,7 +22,7 @@ use Rattle.waiting_deposits.specs.declared.AffordableDeposits.{AffordableDeposit
 -- one deposit
 unfoldable pub credited : Gwei → Gwei → Credited
 credited left amount =
-    if ltb left.0 amount.0
+    when ltb left.0 amount.0
     then record { within = false; left = left }
     else record { within = true; left = record { 0 = left.0 - amount.0 } }
 
@@ -84,7 +84,7 @@ affords_none left = λ i. record { count = 0; left = record { 0 = same i } }
 
 module _ (d : PendingBalanceDeposit) (ds : List PendingBalanceDeposit) (left : Gwei) where
   affords_over : left.0 < d.amount.0 → affords (d ∷ ds) left ≡ stop_at 0 left
-  unfolding affords if◌then◌else◌
+  unfolding affords when◌then◌else◌
   affords_over h =
       let sum : 0 + d.amount.0 ≡ d.amount.0 = omega arith in
       let same : left.0 - 0 ≡ left.0 = omega arith in
@@ -92,7 +92,7 @@ module _ (d : PendingBalanceDeposit) (ds : List PendingBalanceDeposit) (left : G
 
   affords_more : d.amount.0 ≤ left.0
       → affords (d ∷ ds) left ≡ after 1 (affords ds (record { 0 = left.0 - d.amount.0 }))
-  unfolding affords if◌then◌else◌
+  unfolding affords when◌then◌else◌
   affords_more h =
       let rest = affordable_of ds (left.0 - d.amount.0) in
       let sum : 0 + d.amount.0 ≡ d.amount.0 = omega arith in
@@ -124,7 +124,7 @@ module _ (ds : List PendingBalanceDeposit) (i : ℕ) (left : Gwei) where
     here = ap (λ (xs : List PendingBalanceDeposit). affords xs left) (drop-cons ds i no_deposit within)
 
     over : c.within ≡ false → left.0 < d.amount.0
-    unfolding credited if◌then◌else◌
+    unfolding credited when◌then◌else◌
     over e = go (ltb left.0 d.amount.0) refl
       where
         go : (t : Bool) → ltb left.0 d.amount.0 ≡ t → left.0 < d.amount.0
@@ -135,7 +135,7 @@ module _ (ds : List PendingBalanceDeposit) (i : ℕ) (left : Gwei) where
             omega arith
 
     under : c.within ≡ true → d.amount.0 ≤ left.0
-    unfolding credited if◌then◌else◌
+    unfolding credited when◌then◌else◌
     under e = go (ltb left.0 d.amount.0) refl
       where
         go : (t : Bool) → ltb left.0 d.amount.0 ≡ t → d.amount.0 ≤ left.0
@@ -146,7 +146,7 @@ module _ (ds : List PendingBalanceDeposit) (i : ℕ) (left : Gwei) where
             omega arith
 
     left_after : d.amount.0 ≤ left.0 → c.left ≡ record { 0 = left.0 - d.amount.0 }
-    unfolding credited if◌then◌else◌
+    unfolding credited when◌then◌else◌
     left_after h = ap (λ (x : Credited). x.left) is ∙ rw (le-ltb left.0 d.amount.0 h)
 
     pub at_over : c.within ≡ false → after i (affords (drop i ds) left) ≡ stop_at i left

@@ -7,7 +7,7 @@ use mathlib.Core.List.{List, [], ◌∷◌, ◌++◌, map}
 use Prim.Native.Nat.{ℕ, zero, suc, ◌+◌, ◌-◌, ◌<◌, ◌≤◌, min}
 use native.Mathlib.Omega.{arith}
 use Rattle.std.proofs.Math.ListN.{length}
-use Rattle.lists.specs.Base.{if◌then◌else◌}
+use Rattle.lists.specs.Base.{when◌then◌else◌}
 use Rattle.lists.specs.Laws.{total_append}
 use Rattle.tables.specs.Rows.{rows, length_rows, rows_snoc, drop_rows, drop_rows_end}
 use Rattle.rules.specs.Types as rule
@@ -67,22 +67,22 @@ reading_more {g} {list} {k} r h d e size = record {
 module _ (limit : ℕ) (ys : Deposits) where
   stops : (spent : ℕ) (xs : Deposits) → length (affordable limit spent xs) < length xs
       → affordable limit spent (xs ++ ys) ≡ affordable limit spent xs
-  unfolding if◌then◌else◌
+  unfolding when◌then◌else◌
   stops spent [] h = absurd (not-suc-le-zero h)
   stops spent (d ∷ xs) h =
       go (ltb limit (spent + d.amount)) (affordable limit (spent + d.amount) xs)
       (affordable limit (spent + d.amount) (xs ++ ys)) (stops (spent + d.amount) xs) h
     where
       go : (t : Bool) (some all : Deposits) → (length some < length xs → all ≡ some)
-          → length (if t then [] else d ∷ some) < suc (length xs)
-          → (if t then [] else d ∷ all) ≡ (if t then [] else d ∷ some)
+          → length (when t then [] else d ∷ some) < suc (length xs)
+          → (when t then [] else d ∷ all) ≡ (when t then [] else d ∷ some)
       go true some all same k = refl
       go false some all same k = ap {B = Deposits} (λ l. d ∷ l) (same (le_of_suc-le-suc k))
 
   goes : (spent : ℕ) (xs : Deposits) → length xs ≤ length (affordable limit spent xs)
       → (affordable limit spent xs ≡ xs)
       × (affordable limit spent (xs ++ ys) ≡ xs ++ affordable limit (spent + deposit_amounts xs) ys)
-  unfolding if◌then◌else◌
+  unfolding when◌then◌else◌
   goes spent [] h =
       let none : spent + 0 ≡ spent = omega arith in
       (refl, rw none)
@@ -94,8 +94,8 @@ module _ (limit : ℕ) (ys : Deposits) where
     where
       go : (t : Bool) (some all rest : Deposits)
           → (length xs ≤ length some → (some ≡ xs) × (all ≡ xs ++ rest))
-          → suc (length xs) ≤ length (if t then [] else d ∷ some)
-          → ((if t then [] else d ∷ some) ≡ d ∷ xs) × ((if t then [] else d ∷ all) ≡ d ∷ xs ++ rest)
+          → suc (length xs) ≤ length (when t then [] else d ∷ some)
+          → ((when t then [] else d ∷ some) ≡ d ∷ xs) × ((when t then [] else d ∷ all) ≡ d ∷ xs ++ rest)
       go true some all rest same k = absurd (not-suc-le-zero k)
       go false some all rest same k =
           let both = same (le_of_suc-le-suc k) in

@@ -8,7 +8,7 @@ use Prim.Native.Nat.{ℕ, zero, suc, ◌+◌, ◌-◌, ◌%◌, ◌≤◌, ◌<�
 use Rattle.std.proofs.Math.Dec.{eqb}
 use Rattle.std.proofs.Math.ListN.{length}
 use borrow.Author.Tests.{eq-eqb, ne_eqb, eqb-true, lt-ltb, ltb-true}
-use Rattle.lists.specs.Base.{if◌then◌else◌, every, empty, last, same_bytes}
+use Rattle.lists.specs.Base.{when◌then◌else◌, every, empty, last, same_bytes}
 use Rattle.lists.specs.Laws.{by_test, both, join, every_at, every_append, every_weaken}
 use Rattle.tables.specs.Rows.{rows}
 use Rattle.rules.specs.Types as rule
@@ -176,11 +176,11 @@ module _ (S : rule.Settings) (b : rule.Books) {e : ExpectedWithdrawals} (q : e �
 
   module _ (h : e.count ≤ 16) (ws : List rule.Withdrawal) where
     pub refusal_none : true ≡ same_withdrawals ws (handed_list e.list e.count) → 0 ≡ withdrawals_refusal S b ws
-    unfolding withdrawals_refusal if◌then◌else◌
+    unfolding withdrawals_refusal when◌then◌else◌
     refusal_none t = rw (← expected_list h) (rw (← t))
 
     pub refusal_some : false ≡ same_withdrawals ws (handed_list e.list e.count) → 30 ≡ withdrawals_refusal S b ws
-    unfolding withdrawals_refusal if◌then◌else◌
+    unfolding withdrawals_refusal when◌then◌else◌
     refusal_some t = rw (← expected_list h) (rw (← t))
 
 -- ---- payments
@@ -316,13 +316,13 @@ some (x ∷ xs) h = refl
 
 module _ (s : Scalars) (list : List Withdrawal) (t : Tables) where
   pub index_kept : s.next_withdrawal_index.0 ≡ next_index (books_of s t) (handed_list list 0)
-  unfolding next_index books_of if◌then◌else◌ handed_list padded
+  unfolding next_index books_of when◌then◌else◌ handed_list padded
   index_kept = refl
 
   module _ (n : ℕ) (k : n ≤ length list) where
     pub index_behind : 0 < n
         → (get_or list (n - 1) past).index.0 + 1 ≡ next_index (books_of s t) (handed_list list n)
-    unfolding next_index if◌then◌else◌
+    unfolding next_index when◌then◌else◌
     index_behind h =
         rw (some (handed_list list n) (omega (arith, length_handed list n)))
         (ap (λ (w : rule.Withdrawal). w.index + 1) (sym (last_handed list n h k)))
@@ -331,7 +331,7 @@ module _ (s : Scalars) (list : List Withdrawal) (t : Tables) where
       pub cursor_behind : 0 < n → n ≡ settings.max_withdrawals_per_payload
           → ((get_or list (n - 1) past).validator_index.0 + 1) % s.validators
           ≡ next_validator_index (settings_of settings) (books_of s t) (handed_list list n)
-      unfolding next_validator_index if◌then◌else◌
+      unfolding next_validator_index when◌then◌else◌
       cursor_behind h e =
           let full : eqb (length (handed_list list n)) settings.max_withdrawals_per_payload ≡ true =
           eq-eqb _ _ (length_handed list n ∙ e) in
@@ -342,7 +342,7 @@ module _ (s : Scalars) (list : List Withdrawal) (t : Tables) where
       pub cursor_on : (n ≡ settings.max_withdrawals_per_payload → ⊥)
           → (s.next_withdrawal_validator_index.0 + settings.max_validators_per_withdrawals_sweep) % s.validators
           ≡ next_validator_index (settings_of settings) (books_of s t) (handed_list list n)
-      unfolding next_validator_index books_of if◌then◌else◌
+      unfolding next_validator_index books_of when◌then◌else◌
       cursor_on e =
           let short : eqb (length (handed_list list n)) settings.max_withdrawals_per_payload ≡ false =
           ne_eqb _ _ (λ z. e (sym (length_handed list n) ∙ z)) in

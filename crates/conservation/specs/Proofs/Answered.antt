@@ -2,7 +2,7 @@
 use Rattle.std.specs.Prelude.{◌≡◌, refl, Bool, true, false, not, ℕ, eqb}
 use Rattle.std.proofs.Common.{arith, eqb-true}
 use Rattle.std.proofs.lemmas.Bool.{eqb-false}
-use Rattle.lists.specs.Base.{if◌then◌else◌}
+use Rattle.lists.specs.Base.{when◌then◌else◌}
 use Rattle.lists.specs.Laws.{not_not, passed}
 use Rattle.rules.specs.Types.{Settings, Books}
 use Rattle.rules.specs.Acceptance.{sound_settings, sound_books, within_limits, sums_within, all_epochs_within}
@@ -18,11 +18,11 @@ pub record Passed (S : Settings) (b : Books) (c : Call) : Type 0 where
   pub epochs : all_epochs_within (result S b c.operation) ≡ true
 
 -- two refusals in a row came to 0
-refusal_passed : (n : ℕ) {r : ℕ} → ◌≡◌ {A = ℕ} (if not (eqb n 0) then n else r) 0 → (n ≡ 0) × (r ≡ 0)
-unfolding if◌then◌else◌
+refusal_passed : (n : ℕ) {r : ℕ} → ◌≡◌ {A = ℕ} (when not (eqb n 0) then n else r) 0 → (n ≡ 0) × (r ≡ 0)
+unfolding when◌then◌else◌
 refusal_passed n {r} e = go (eqb n 0) refl e
   where
-    go : (t : Bool) → eqb n 0 ≡ t → ◌≡◌ {A = ℕ} (if not t then n else r) 0 → (n ≡ 0) × (r ≡ 0)
+    go : (t : Bool) → eqb n 0 ≡ t → ◌≡◌ {A = ℕ} (when not t then n else r) 0 → (n ≡ 0) × (r ≡ 0)
     go true q e = (eqb-true n 0 q, e)
     go false q e = absurd (eqb-false n 0 q e)
 

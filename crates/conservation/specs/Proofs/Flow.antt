@@ -1,7 +1,7 @@
 -- What one change of the books counts, as one statement with three parts, and how two changes in a row add up.
 use Rattle.std.specs.Prelude.{◌≡◌, refl, Bool, true, false, List, ◌++◌, ◌+◌, ◌≤◌}
 use Rattle.std.proofs.Common.{sym, ap, ◌∙◌, append_assoc, append-nil, add-zero, arith}
-use Rattle.lists.specs.Base.{if◌then◌else◌}
+use Rattle.lists.specs.Base.{when◌then◌else◌}
 use Rattle.lists.specs.Laws.{total_append}
 use Rattle.rules.specs.Types.{PendingBalanceDeposit, Books}
 use Rattle.rules.specs.Acceptance.{held, balances, deposit_amounts}
@@ -53,14 +53,14 @@ counted_after n = λ i. record {
 
 -- one test chooses what is counted and what is left
 pub choose : (t : Bool) {m n : Counted} {b e₁ e₂ : Books} → (t ≡ true → Flow m b e₁) → (t ≡ false → Flow n b e₂)
-    → Flow (if t then m else n) b (if t then e₁ else e₂)
-unfolding if◌then◌else◌
+    → Flow (when t then m else n) b (when t then e₁ else e₂)
+unfolding when◌then◌else◌
 choose true f g = f refl
 choose false f g = g refl
 
 -- the same where the test decides only what is queued
 pub choose_queued : (t : Bool) {x y : List PendingBalanceDeposit} {b e₁ e₂ : Books} → Flow (queues x) b e₁
-    → Flow (queues y) b e₂ → Flow (queues (if t then x else y)) b (if t then e₁ else e₂)
-unfolding if◌then◌else◌
+    → Flow (queues y) b e₂ → Flow (queues (when t then x else y)) b (when t then e₁ else e₂)
+unfolding when◌then◌else◌
 choose_queued true f g = f
 choose_queued false f g = g

@@ -4,7 +4,7 @@ use Rattle.std.proofs.Math.Path.{refl, sym}
 use Rattle.std.proofs.Math.Bool.{true, false}
 use Rattle.std.proofs.Common.{append-nil, ltb-true}
 use native.Mathlib.Omega.{arith}
-use Rattle.lists.specs.Base.{if◌then◌else◌, adjust, total}
+use Rattle.lists.specs.Base.{when◌then◌else◌, adjust, total}
 use Rattle.lists.specs.Laws.{by_test, not_not, passed, total_adjust, total_adjust_same, total_append}
 use Rattle.rules.specs.Types.{Settings, Validator, PendingBalanceDeposit, Withdrawal, Books}
 use Rattle.rules.specs.Update.{with_exit}
@@ -129,9 +129,9 @@ module _ (S : Settings) (b : Books) where
 
   -- a known key, with or without a switch
   pub known_flow : (i amount : ℕ) (t : Bool) → i < count b
-      → Flow (takes_in amount (record { index = i; amount = amount } ∷ (if t then excess_entry S i b else []))) b
-      (if t then switch_to_compounding_validator S i (queue_deposit i amount b) else queue_deposit i amount b)
-  unfolding if◌then◌else◌ excess_entry
+      → Flow (takes_in amount (record { index = i; amount = amount } ∷ (when t then excess_entry S i b else []))) b
+      (when t then switch_to_compounding_validator S i (queue_deposit i amount b) else queue_deposit i amount b)
+  unfolding when◌then◌else◌ excess_entry
   known_flow i amount true h =
       let f = then_flow (queue_flow i amount) (switch_flow S i (queue_deposit i amount b) h) in
       record { sums = omega (arith, f.sums); order = f.order; spent = f.spent }
@@ -158,7 +158,7 @@ receipt_flow S b public_key withdrawal_credentials amount index valid =
 
 -- ---- every call
 
-in_registry : (b : Books) (i : ℕ) → ◌≡◌ {A = ℕ} (if not (ltb i (count b)) then 10 else 0) 0 → i < count b
+in_registry : (b : Books) (i : ℕ) → ◌≡◌ {A = ℕ} (when not (ltb i (count b)) then 10 else 0) 0 → i < count b
 in_registry b i e = ltb-true i (count b) (not_not _ (passed _ {n = 10} {r = 0} (omega arith) e).0)
 
 pub operation_flow : (S : Settings) (b : Books) (o : Operation) → sound_books S b ≡ true → own_refusal S b o ≡ 0

@@ -7,7 +7,7 @@ use mathlib.Core.List.{List, [], ◌∷◌, ◌++◌, append-nil}
 use native.Mathlib.Omega.{arith}
 use Rattle.std.proofs.Math.ListN.{length}
 use borrow.Author.Tests.{ltb-true, ltb-false}
-use Rattle.lists.specs.Base.{if◌then◌else◌, adjust, every, empty}
+use Rattle.lists.specs.Base.{when◌then◌else◌, adjust, every, empty}
 use Rattle.lists.specs.Laws.{by_test, both, length_adjust, total_adjust, total_append, total_map_same}
 use Rattle.rules.specs.Types.{Settings, Validator, PendingBalanceDeposit, PendingConsolidation, Books}
 use Rattle.rules.specs.Update.{with_validators, with_pending_balance_deposits, with_pending_consolidations}
@@ -89,9 +89,9 @@ module _ (S : Settings) where
 
   -- the two tests of a switch as variables, so that the claim goes by their cases
   switch_cases : (i : ℕ) (b : Books) (t u : Bool) → i < count b → ltb 0 (excess i b) ≡ u
-      → Flow (queues (if t && u then excess_deposit i b else [])) b
-      (if t then switched_with i b (if t && u then excess_deposit i b else []) else b)
-  unfolding if◌then◌else◌
+      → Flow (queues (when t && u then excess_deposit i b else [])) b
+      (when t then switched_with i b (when t && u then excess_deposit i b else []) else b)
+  unfolding when◌then◌else◌
   switch_cases i b true true h e = record {
     sums =
         omega (
@@ -116,7 +116,7 @@ module _ (S : Settings) where
   switch_cases i b false u h e = still b
 
   switched_flow : (i : ℕ) (b : Books) → i < count b → Flow (queues (excess_entry S i b)) b
-      (if has_eth1_withdrawal_credential (at b.validators i) then switched_books S i b else b)
+      (when has_eth1_withdrawal_credential (at b.validators i) then switched_books S i b else b)
   unfolding excess_entry
   switched_flow i b h =
       switch_cases i b (has_eth1_withdrawal_credential (at b.validators i)) (ltb 0 (excess i b)) h refl

@@ -1,13 +1,13 @@
 use borrow.Author.Tests.{le-leb, lt-leb, lt-ltb, le-ltb}
-use Rattle.lists.specs.Base.{if◌then◌else◌}
+use Rattle.lists.specs.Base.{when◌then◌else◌}
 use Rattle.records.proofs.registry.active_effective_balance_at.Goals as goal
 
 pub returns-then-epoch-word_at : goal.returns-then-epoch-word_at
-unfolding if◌then◌else◌
+unfolding when◌then◌else◌
 returns-then-epoch-word_at c = λ ids. simp (lt-leb _ _ (rw c.word_at.ensures at c.if-epoch-word_at.true))
 
 pub returns-then-word_at-epoch : goal.returns-then-word_at-epoch
-unfolding if◌then◌else◌
+unfolding when◌then◌else◌
 returns-then-word_at-epoch c =
     λ ids.
     simp (
@@ -16,7 +16,7 @@ returns-then-word_at-epoch c =
     )
 
 pub returns : goal.returns
-unfolding if◌then◌else◌
+unfolding when◌then◌else◌
 returns c =
     λ ids.
     simp (
