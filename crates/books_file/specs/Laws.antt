@@ -9,10 +9,10 @@ use Rattle.file_format.specs.Books.{validator, deposit, partial, consolidation, 
 use Rattle.file_format.specs.File.{ends, file_ok}
 use Rattle.file_format.specs.Places.{count_at, list_end, listed_ok}
 use Rattle.file_format.specs.Places.{deposits_place, partials_place, consolidations_place, end_place}
-use Rattle.file_format.specs.AccessLaws.{fixed_at, fixed_number, fixed_flag, fixed_key, fixed_credentials}
-use Rattle.file_format.specs.AccessLaws.{fixed_deposit, fixed_partial, fixed_consolidation}
-use Rattle.file_format.specs.AccessLaws.{many_split, many_numbers}
-use Rattle.file_format.specs.PlacesLaws.{books_ok, books_rest}
+use Rattle.file_format.proofs.AccessLaws.{fixed_at, fixed_number, fixed_flag, fixed_key, fixed_credentials}
+use Rattle.file_format.proofs.AccessLaws.{fixed_deposit, fixed_partial, fixed_consolidation}
+use Rattle.file_format.proofs.AccessLaws.{many_split, many_numbers}
+use Rattle.file_format.proofs.PlacesLaws.{books_ok, books_rest}
 
 -- ---- a validator
 

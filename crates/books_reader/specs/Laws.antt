@@ -21,7 +21,8 @@ use Rattle.file_format.specs.Books.{books_format}
 use Rattle.file_format.specs.File.{ends, file_ok, read_file, read_books}
 use Rattle.file_format.specs.Answers.{opened_answer, read_answer}
 use Rattle.file_format.specs.Places.{settings_at, books_at}
-use Rattle.file_format.specs.PlacesLaws.{Good, good, books_value}
+use Rattle.file_format.specs.PlacesLaws.{Good}
+use Rattle.file_format.proofs.PlacesLaws.{good, books_value}
 use Rattle.file_records.specs.Scalars.{scalars_at}
 use Rattle.file_records.specs.Books.{validators_counted, deposits_counted, partials_counted, consolidations_counted}
 use Rattle.file_records.specs.Books.{file_validators, file_deposits, file_partials, file_consolidations}

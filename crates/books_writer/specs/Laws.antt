@@ -17,8 +17,8 @@ use Rattle.acceptance.specs.Handed.{accepted, facts}
 use Rattle.file_format.specs.Words.{words, is_byte, bytes, end_word, with_end}
 use Rattle.file_format.specs.Books.{validator, deposit, partial, consolidation, list_of}
 use Rattle.file_format.specs.File.{write_file, write_books, read_books}
-use Rattle.file_format.specs.FileLaws.{length_bytes}
-use Rattle.file_format.specs.Theorems.{accepted_read_written}
+use Rattle.file_format.proofs.FileLaws.{length_bytes}
+use Rattle.file_format.proofs.Theorems.{accepted_read_written}
 use Rattle.file_format.specs.Answers.{write_answer, over}
 use Rattle.file_format.specs.PutLaws.{put}
 use Rattle.file_stores.specs.Laws.{put_next, put_length, put_closed, put_over}

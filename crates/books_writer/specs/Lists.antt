@@ -16,7 +16,7 @@ use Rattle.records.specs.Plain.{plain_validator}
 use Rattle.file_format.specs.Words.{word}
 use Rattle.file_format.specs.Fields.{Format, number, flag, field, field_words, each, many}
 use Rattle.file_format.specs.Books.{validator, validator_parts, deposit, partial, consolidation, list_of}
-use Rattle.file_format.specs.AccessLaws.{field_length}
+use Rattle.file_format.proofs.AccessLaws.{field_length}
 use Rattle.file_format.specs.PutLaws.{put}
 use Rattle.file_stores.specs.Laws.{put_none, put_next, put_length, put_row, each_length, number_length}
 

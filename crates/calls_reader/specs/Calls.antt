@@ -14,8 +14,8 @@ use Rattle.file_format.specs.Fields.{many}
 use Rattle.file_format.specs.File.{ends, file_ok, read_file, read_calls}
 use Rattle.file_format.specs.Places.{count_at}
 use Rattle.file_format.specs.Calls.{call, calls_limit, calls_format}
-use Rattle.file_format.specs.FieldsLaws.{word_only, first_word}
-use Rattle.file_format.specs.AccessLaws.{get_d_at}
+use Rattle.file_format.proofs.FieldsLaws.{word_only, first_word}
+use Rattle.file_format.proofs.AccessLaws.{get_d_at}
 use Rattle.calls_reader.specs.Widths.{longest, next_place, next_rest, next_within, next_near}
 
 -- ---- the file by places: the head at word 0, the count at 1, the calls from 2 on

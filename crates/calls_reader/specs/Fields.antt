@@ -20,8 +20,8 @@ use Rattle.file_format.specs.Places.{number_at, count_at}
 use Rattle.file_format.specs.Calls.{signature, amount_fields, receipt_fields, exit_fields, request_fields}
 use Rattle.file_format.specs.Calls.{consolidation_fields, withdrawal, withdrawal_of, withdrawals_fields}
 use Rattle.file_format.specs.Calls.{receipt_of, exit_of, request_of, consolidation_of, call_format, call}
-use Rattle.file_format.specs.AccessLaws.{Fixed, fixed_number, fixed_key, fixed_credentials, fixed_address}
-use Rattle.file_format.specs.AccessLaws.{get_d_at, many_good, list_value}
+use Rattle.file_format.proofs.AccessLaws.{Fixed, fixed_number, fixed_key, fixed_credentials, fixed_address}
+use Rattle.file_format.proofs.AccessLaws.{get_d_at, many_good, list_value}
 use Rattle.calls_reader.specs.Widths.{behind, fixed_withdrawal, withdrawals_most, code_at, call_value_at}
 use Rattle.calls_reader.specs.Widths.{fields_good}
 

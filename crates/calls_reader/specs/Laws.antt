@@ -12,8 +12,8 @@ use Rattle.file_format.specs.Places.{count_at}
 use Rattle.file_format.specs.Calls.{signature, amount_fields, receipt_fields, exit_fields, request_fields}
 use Rattle.file_format.specs.Calls.{consolidation_fields, withdrawal, withdrawals_fields, call_format, call}
 use Rattle.file_format.specs.Calls.{calls_format}
-use Rattle.file_format.specs.AccessLaws.{Fixed, fixed_at, fixed_number, fixed_key, fixed_credentials, fixed_address}
-use Rattle.file_format.specs.AccessLaws.{get_d_at}
+use Rattle.file_format.proofs.AccessLaws.{Fixed, fixed_at, fixed_number, fixed_key, fixed_credentials, fixed_address}
+use Rattle.file_format.proofs.AccessLaws.{get_d_at}
 use Rattle.calls_reader.specs.Widths.{behind, fields_width, code_at, next_place, call_ok_at}
 use Rattle.calls_reader.specs.Widths.{next_rest, next_within, next_near}
 use Rattle.calls_reader.specs.Calls.{calls_ok_at, calls_rest_at}

@@ -12,9 +12,9 @@ use Rattle.file_format.specs.Fields.{Format, many}
 use Rattle.file_format.specs.Places.{count_at}
 use Rattle.file_format.specs.Calls.{signature, amount_fields, receipt_fields, exit_fields, request_fields}
 use Rattle.file_format.specs.Calls.{consolidation_fields, withdrawal, withdrawals_fields, call_format, call}
-use Rattle.file_format.specs.FieldsLaws.{impossible, word_only, first_word}
-use Rattle.file_format.specs.AccessLaws.{Fixed, fixed_at, fixed_pair, fixed_number, fixed_flag, fixed_key}
-use Rattle.file_format.specs.AccessLaws.{fixed_credentials, fixed_address, fixed_many, get_d_at}
+use Rattle.file_format.proofs.FieldsLaws.{impossible, word_only, first_word}
+use Rattle.file_format.proofs.AccessLaws.{Fixed, fixed_at, fixed_pair, fixed_number, fixed_flag, fixed_key}
+use Rattle.file_format.proofs.AccessLaws.{fixed_credentials, fixed_address, fixed_many, get_d_at}
 
 -- ---- fields that take as many words whatever they hold
 

@@ -11,10 +11,10 @@ use Rattle.file_format.specs.Calls.{call, calls_limit, calls_format}
 use Rattle.file_format.specs.File.{write_file, write_calls}
 use Rattle.file_format.specs.Places.{count_at}
 use Rattle.file_format.specs.Answers.{one_more, over}
-use Rattle.file_format.specs.FieldsLaws.{word_kept}
-use Rattle.file_format.specs.FileLaws.{some_same}
+use Rattle.file_format.proofs.FieldsLaws.{word_kept}
+use Rattle.file_format.proofs.FileLaws.{some_same}
 use Rattle.file_format.specs.PutLaws.{put}
-use Rattle.file_format.specs.FileLaws.{words_front}
+use Rattle.file_format.proofs.FileLaws.{words_front}
 use Rattle.file_stores.specs.Laws.{put_next, put_length, put_closed, put_over}
 use Rattle.calls_writer.specs.Added.{Added}
 use Rattle.calls_writer.specs.Held.{held, held_few, calls_words, more_words, end_place, size_least, held_front}

@@ -9,8 +9,8 @@ use Rattle.rules.specs.Calls.{consolidation, turn}
 use Rattle.file_format.specs.Words.{word, is_byte}
 use Rattle.file_format.specs.Fields.{number, field, flag, field_words}
 use Rattle.file_format.specs.Calls.{signature, amount_fields, call}
-use Rattle.file_format.specs.FieldsLaws.{number_fits}
-use Rattle.file_format.specs.AccessLaws.{field_length}
+use Rattle.file_format.proofs.FieldsLaws.{number_fits}
+use Rattle.file_format.proofs.AccessLaws.{field_length}
 use Rattle.file_format.specs.PutLaws.{put}
 use Rattle.file_stores.specs.Laws.{put_next, put_length}
 

@@ -17,10 +17,11 @@ use Rattle.file_format.specs.Calls.{call, calls_limit, calls_format, calls_writa
 use Rattle.file_format.specs.File.{write_file, file_ok, read_file, write_calls, read_calls}
 use Rattle.file_format.specs.Places.{count_at}
 use Rattle.file_format.specs.Answers.{one_more}
-use Rattle.file_format.specs.FieldsLaws.{word_kept}
-use Rattle.file_format.specs.CallsLaws.{calls_format_lawful}
-use Rattle.file_format.specs.FileLaws.{words_bytes, length_bytes, ok_written}
-use Rattle.file_format.specs.PutLaws.{put, bytes_append}
+use Rattle.file_format.proofs.FieldsLaws.{word_kept}
+use Rattle.file_format.proofs.CallsLaws.{calls_format_lawful}
+use Rattle.file_format.proofs.FileLaws.{words_bytes, length_bytes, ok_written}
+use Rattle.file_format.specs.PutLaws.{put}
+use Rattle.file_format.proofs.PutLaws.{bytes_append}
 use Rattle.file_stores.specs.Laws.{each_append}
 
 -- ---- the words of a file, and of the file with one call more

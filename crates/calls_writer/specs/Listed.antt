@@ -19,8 +19,8 @@ use Rattle.file_format.specs.Words.{word, is_byte}
 use Rattle.file_format.specs.Fields as fields
 use Rattle.file_format.specs.Fields.{number, field, field_words, many}
 use Rattle.file_format.specs.Calls.{withdrawal, call}
-use Rattle.file_format.specs.FieldsLaws.{number_fits}
-use Rattle.file_format.specs.AccessLaws.{field_length}
+use Rattle.file_format.proofs.FieldsLaws.{number_fits}
+use Rattle.file_format.proofs.AccessLaws.{field_length}
 use Rattle.file_format.specs.PutLaws.{put}
 use Rattle.file_stores.specs.Laws.{put_none, put_next, put_length, put_row}
 use Rattle.calls_writer.specs.Known.{array_bytes}

@@ -8,9 +8,9 @@ use Rattle.rules.specs.Calls.{Operation}
 use Rattle.file_format.specs.Calls.{calls_format, calls_writable}
 use Rattle.file_format.specs.File.{write_calls, read_calls}
 use Rattle.file_format.specs.Answers.{add_answer, added_answer, one_more}
-use Rattle.file_format.specs.CallsLaws.{calls_format_lawful}
+use Rattle.file_format.proofs.CallsLaws.{calls_format_lawful}
 use Rattle.file_format.specs.Fields.{many}
-use Rattle.file_format.specs.FileLaws.{some_same, read_written}
+use Rattle.file_format.proofs.FileLaws.{some_same, read_written}
 use Rattle.calls_writer.specs.Added.{add_number, Begun, Added}
 
 -- ---- the file of no calls

@@ -1,12 +1,10 @@
 -- Demand 3 of the code. A list of public calls, each handed the books that the last one left, in the same buffers or in
 -- others. What is known of each is its own promise, `Called`, and nothing else.
-use Rattle.std.specs.Prelude.{◌≡◌, refl, List, [], ◌∷◌, ◌++◌, ℕ, ◌+◌, ◌≤◌}
-use Rattle.std.proofs.Common.{ap, ap₂, ◌∙◌}
+use Rattle.std.specs.Prelude.{◌≡◌, List, [], ◌∷◌, ◌++◌, ℕ, ◌+◌, ◌≤◌}
 use Rattle.rules.specs.Types.{Settings, Books}
 use Rattle.rules.specs.Acceptance.{held, deposit_amounts}
-use Rattle.rules.specs.Calls.{Operation, Call, answers, run}
+use Rattle.rules.specs.Calls.{Operation, Call}
 use Rattle.rules.specs.Counting.{counted}
-use Rattle.conservation.specs.Demand3.{demand_3}
 use Rattle.primitives.specs.declared.Scalars.{Scalars}
 use Rattle.records.specs.Books.{Tables, books_of, call_on, Called}
 
@@ -20,19 +18,6 @@ pub data Carried (S : Settings) : Scalars → Tables → List Call → List ℕ 
       → {cs : List Call} {ns : List ℕ} {r : Scalars} {u : Tables} → Carried S s₂ t₂ cs ns r u
       → Carried S s t (call_on t op ∷ cs) (n ∷ ns) r u
 
--- the answers and the books reached are those of the definitions
-pub carried_answers : {S : Settings} {s r : Scalars} {t u : Tables} {cs : List Call} {ns : List ℕ}
-    → Carried S s t cs ns r u → ns ≡ answers S (books_of s t) cs
-carried_answers none = refl
-carried_answers {S} (next {s} {t} {op} {n} c s₂ t₂ e {cs} {ns} more) =
-    ap₂ ◌∷◌ c.number (carried_answers more ∙ ap (λ b. answers S b cs) (e ∙ c.books))
-
-pub carried_books : {S : Settings} {s r : Scalars} {t u : Tables} {cs : List Call} {ns : List ℕ}
-    → Carried S s t cs ns r u → books_of r u ≡ run S (books_of s t) cs
-carried_books none = refl
-carried_books {S} (next {s} {t} {op} {n} c s₂ t₂ e {cs} {ns} more) =
-    carried_books more ∙ ap (λ b. run S b cs) (e ∙ c.books)
-
 -- Demand 3, each term counted from the opening books and the calls alone
 pub record Demand3Carried (S : Settings) (opening : Books) (cs : List Call) (closing : Books) : Type 0 where
   pub sums : held closing + (counted S opening cs).taken_out ≡ held opening + (counted S opening cs).taken_in
@@ -40,9 +25,3 @@ pub record Demand3Carried (S : Settings) (opening : Books) (cs : List Call) (clo
       ≡ opening.pending_balance_deposits ++ (counted S opening cs).queued
   pub spent : deposit_amounts (counted S opening cs).credited
       ≤ opening.deposit_balance_to_consume + (counted S opening cs).allowance
-
-pub demand_3_carried : {S : Settings} {s r : Scalars} {t u : Tables} {cs : List Call} {ns : List ℕ}
-    → Carried S s t cs ns r u → Demand3Carried S (books_of s t) cs (books_of r u)
-demand_3_carried {S} {s} {t = t} {cs = cs} c =
-    let d = demand_3 S (books_of s t) cs in
-    rw (carried_books c) (record { sums = d.sums; order = d.order; spent = d.spent })

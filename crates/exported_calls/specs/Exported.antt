@@ -5,7 +5,7 @@ use Rattle.std.specs.Prelude.{◌≡◌, refl, Bool, true, false, List, [], ◌�
 use Rattle.std.proofs.Common.{ap, ap₂, ◌∙◌}
 use Rattle.rules.specs.Types.{Settings, Books}
 use Rattle.rules.specs.Calls.{Operation, Call, answer, after, run}
-use Rattle.conservation.specs.Demand3.{demand_3}
+use Rattle.conservation.proofs.Demand3.{demand_3}
 use Rattle.records.specs.Books.{Tables, books_of, call_on}
 use Rattle.carried.specs.Carried.{Demand3Carried}
 use Rattle.slices.specs.Numbers.{scalars_in}

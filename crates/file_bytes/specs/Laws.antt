@@ -11,8 +11,8 @@ use Rattle.lists.specs.Base.{when◌then◌else◌}
 use Rattle.lists.specs.Laws.{both}
 use Rattle.file_format.specs.Words.{words, payload}
 use Rattle.file_format.specs.Fields.{field, field_ok, is_three_bytes, first, second, third}
-use Rattle.file_format.specs.FieldsLaws.{field_only, impossible}
-use Rattle.file_format.specs.PlacesLaws.{field_at, length_words, word_at}
+use Rattle.file_format.proofs.FieldsLaws.{field_only, impossible}
+use Rattle.file_format.proofs.PlacesLaws.{field_at, length_words, word_at}
 
 -- ---- j bytes of s stand in m from `at` on, which else holds what l holds
 

@@ -9,7 +9,7 @@ use Rattle.primitives.specs.declared.Scalars.{Scalars}
 use Rattle.records.specs.Books.{Tables, books_of}
 use Rattle.acceptance.specs.Handed.{facts}
 use Rattle.file_format.specs.Words.{words}
-use Rattle.file_format.specs.FieldsLaws.{impossible}
+use Rattle.file_format.proofs.FieldsLaws.{impossible}
 use Rattle.file_format.specs.Calls.{written, call_format}
 use Rattle.calls_reader.specs.Widths.{code_at, call_value_at, fields_good}
 use Rattle.file_calls.specs.Ready.{Accepted, Holds, CallAt, operation_at}

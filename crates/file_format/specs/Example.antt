@@ -1,18 +1,15 @@
 -- The scope text's example as files, computed by the checker; and files in which every field has another value. Words
 -- are in hexadecimal: the first digit is the kind.
-use Rattle.std.specs.Prelude.{◌≡◌, refl, true, false, List, [], ◌∷◌, ℕ, zero, suc, ◌-◌, ◌*◌, ◌^◌}
-use Rattle.std.proofs.Math.Option.{some}
+use Rattle.std.specs.Prelude.{true, false, List, [], ◌∷◌, ℕ, zero, suc, ◌-◌, ◌*◌, ◌^◌}
 use Rattle.lists.specs.Base.{when◌then◌else◌}
 use Rattle.rules.specs.Types.{Settings, Validator, Books}
 use Rattle.rules.specs.Calls.{Operation, reward, penalty, deposit_receipt, voluntary_exit, withdrawal_request}
 use Rattle.rules.specs.Calls.{consolidation, turn, withdrawals}
-use Rattle.rules.specs.Examples.{G, mainnet, validator, deposit, partial, pending, books}
-use Rattle.file_format.specs.Words.{bytes}
+use Rattle.rules.specs.Examples.{G, validator, deposit, partial, pending, books}
 use Rattle.file_format.specs.Fields.{number, field, flag, many}
 use Rattle.file_format.specs.Books as file
 use Rattle.file_format.specs.Calls as calls
 use Rattle.file_format.specs.File.{write_file, file_ok, read_file}
-use Rattle.file_format.specs.File.{write_books, read_books, write_calls, read_calls}
 
 unfoldable pub opened : ℕ
 unfolding
@@ -72,14 +69,6 @@ opening_words =
     ∷ 0x8c9a14f6
     ∷ []
 
-pub opening_written : write_books mainnet opening ≡ bytes opening_words
-unfolding opened
-opening_written = refl
-
-pub opening_read : read_books (bytes opening_words) ≡ some (mainnet, opening)
-unfolding opened
-opening_read = refl
-
 abbrev pub example_calls : List Operation
 example_calls = turn ∷ voluntary_exit 0 1000 true ∷ voluntary_exit 0 1000 true ∷ []
 
@@ -98,14 +87,6 @@ calls_words =
     -- the end
     ∷ 0x800007e6
     ∷ []
-
-pub calls_written : write_calls example_calls ≡ bytes calls_words
-unfolding opened
-calls_written = refl
-
-pub calls_read : read_calls (bytes calls_words) ≡ some example_calls
-unfolding opened
-calls_read = refl
 
 -- ---- every field another value
 
@@ -222,14 +203,6 @@ varied_words =
     ∷ 0x843c5f78
     ∷ []
 
-pub varied_written : write_books varied_settings varied_books ≡ bytes varied_words
-unfolding opened
-varied_written = refl
-
-pub varied_read : read_books (bytes varied_words) ≡ some (varied_settings, varied_books)
-unfolding opened
-varied_read = refl
-
 -- the eight calls
 abbrev pub all_calls : List Operation
 all_calls =
@@ -281,11 +254,3 @@ all_calls_words =
     -- the end
     ∷ 0x8aa6e08a
     ∷ []
-
-pub all_calls_written : write_calls all_calls ≡ bytes all_calls_words
-unfolding opened
-all_calls_written = refl
-
-pub all_calls_read : read_calls (bytes all_calls_words) ≡ some all_calls
-unfolding opened
-all_calls_read = refl

@@ -5,14 +5,6 @@ pub mod Calls
 pub mod File
 pub mod Places
 pub mod Answers
-pub mod Theorems
 pub mod Example
-pub mod Refused
-pub mod FieldsLaws
-pub mod BooksLaws
-pub mod CallsLaws
-pub mod FileLaws
-pub mod AcceptedLaws
-pub mod AccessLaws
 pub mod PlacesLaws
 pub mod PutLaws

@@ -11,8 +11,9 @@ use Rattle.file_format.specs.Books.{validator, deposit, deposit_of, partial, par
 use Rattle.file_format.specs.Books.{consolidation, consolidation_of}
 use Rattle.file_format.specs.Places.{number_at, settings_at, count_at}
 use Rattle.file_format.specs.Places.{deposits_place, partials_place, consolidations_place}
-use Rattle.file_format.specs.PlacesLaws.{Good, validator_at, good_validator}
-use Rattle.file_format.specs.PlacesLaws.{numbers_at, numbers_good}
+use Rattle.file_format.specs.PlacesLaws.{Good}
+use Rattle.file_format.proofs.PlacesLaws.{validator_at, good_validator}
+use Rattle.file_format.proofs.PlacesLaws.{numbers_at, numbers_good}
 use Rattle.primitives.specs.declared.Scalars.{Scalars}
 use Rattle.file_records.specs.Scalars.{scalars_from, scalars_at}
 

@@ -6,8 +6,9 @@ use Rattle.file_format.specs.Fields.{Format}
 use Rattle.file_format.specs.Books.{validator, deposit, partial, consolidation}
 use Rattle.file_format.specs.Places.{count_at, listed, listed_ok}
 use Rattle.file_format.specs.Places.{deposits_place, partials_place, consolidations_place}
-use Rattle.file_format.specs.AccessLaws.{Fixed, fixed_validator, fixed_deposit, fixed_partial, fixed_consolidation}
-use Rattle.file_format.specs.PlacesLaws.{Good, listed_good}
+use Rattle.file_format.proofs.AccessLaws.{Fixed, fixed_validator, fixed_deposit, fixed_partial, fixed_consolidation}
+use Rattle.file_format.specs.PlacesLaws.{Good}
+use Rattle.file_format.proofs.PlacesLaws.{listed_good}
 
 -- so many records from word k on, n words a record
 abbrev pub records_from : {A : Type 0} → Format A → (n k count : ℕ) → List ℕ → List A

@@ -12,7 +12,7 @@ use Rattle.file_format.specs.Books.{books_format}
 use Rattle.file_format.specs.File.{file_ok, read_file, read_books}
 use Rattle.file_format.specs.Answers.{read_answer}
 use Rattle.file_format.specs.Places.{settings_at}
-use Rattle.file_format.specs.PlacesLaws.{books_value}
+use Rattle.file_format.proofs.PlacesLaws.{books_value}
 use Rattle.books_reader.specs.declared.Opened.{Opened}
 use Rattle.books_reader.specs.Read.{BooksRead}
 use Rattle.slices.specs.Numbers.{scalars_in, with_settings, with_scalars}

@@ -11,8 +11,9 @@ use Rattle.file_format.specs.Words.{word, words, bytes, end_word, with_end, wrap
 use Rattle.file_format.specs.Fields.{number, flag, three_bytes, field_words, each}
 use Rattle.file_format.specs.Calls.{signature}
 use Rattle.file_format.specs.Answers.{over}
-use Rattle.file_format.specs.FileLaws.{words_front, length_bytes}
-use Rattle.file_format.specs.PutLaws.{put, put_put, put_word, length_put}
+use Rattle.file_format.proofs.FileLaws.{words_front, length_bytes}
+use Rattle.file_format.specs.PutLaws.{put}
+use Rattle.file_format.proofs.PutLaws.{put_put, put_word, length_put}
 
 -- ---- one group of words behind another
 

@@ -10,10 +10,10 @@ use Rattle.file_format.specs.Words.{words, payload, is_word, wrapping_sum}
 use Rattle.file_format.specs.Fields.{Format, number, flag, field, field_ok, is_three_bytes, second, third, many}
 use Rattle.file_format.specs.File.{ends}
 use Rattle.file_format.specs.Places.{number_at}
-use Rattle.file_format.specs.AccessLaws.{Fixed, fixed_number, fixed_numbers}
-use Rattle.file_format.specs.AccessLaws.{get_d_at}
-use Rattle.file_format.specs.AccessLaws.{many_step, many_broken}
-use Rattle.file_format.specs.PlacesLaws.{length_words, word_at, sum_step, number_words_at}
+use Rattle.file_format.proofs.AccessLaws.{Fixed, fixed_number, fixed_numbers}
+use Rattle.file_format.proofs.AccessLaws.{get_d_at}
+use Rattle.file_format.proofs.AccessLaws.{many_step, many_broken}
+use Rattle.file_format.proofs.PlacesLaws.{length_words, word_at, sum_step, number_words_at}
 
 -- ---- a word
 

@@ -1,8 +1,5 @@
--- The constant rows of chain values, shown sound by one computed test.
-use Rattle.std.specs.Prelude.{◌≡◌, refl, Bool, true, List, [], ◌∷◌, ℕ, get_or}
-use Rattle.std.proofs.Common.{arith}
-use Rattle.lists.specs.Base.{all, every}
-use Rattle.lists.specs.Laws.{every_at}
+-- The constant rows of chain values, each with the test that its settings are sound.
+use Rattle.std.specs.Prelude.{◌≡◌, Bool, true, List, [], ◌∷◌, ℕ, get_or}
 use Rattle.rules.specs.Profiles.{mainnet_row}
 use Rattle.rules.specs.Acceptance.{sound_settings}
 use Rattle.rule_laws.specs.Accepted.{Limit, SoundSettings, settings_sound, settings_sound_so}
@@ -40,10 +37,6 @@ profiles = mainnet_row ∷ []
 -- the test of a row: its settings are sound with the least limits
 abbrev pub row_sound : List ℕ → Bool
 row_sound row = sound_settings (settings_of (row_settings row 1 1 1 1))
-
-pub profiles_sound : every row_sound profiles ≡ true
-unfolding sound_settings all
-profiles_sound = refl
 
 -- a row that passes is sound with any limits from 1 to 65,536
 pub row_settings_sound : (row : List ℕ) → row_sound row ≡ true → (registry deposits partials consolidations : ℕ)
@@ -83,8 +76,3 @@ row_settings_sound row e registry deposits partials consolidations l₁ l₂ l�
       partials_limit = l₃;
       consolidations_limit = l₄;
     }
-
-pub mainnet_sound : (registry deposits partials consolidations : ℕ)
-    → Limit registry → Limit deposits → Limit partials → Limit consolidations
-    → sound_settings (settings_of (row_settings mainnet_row registry deposits partials consolidations)) ≡ true
-mainnet_sound = row_settings_sound mainnet_row (every_at row_sound 0 profiles mainnet_row (omega arith) profiles_sound)

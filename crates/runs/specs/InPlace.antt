@@ -8,7 +8,8 @@ use Rattle.primitives.specs.declared.Scalars.{Scalars}
 use Rattle.records.specs.Books.{Tables, books_of, room_of, call_on, Called}
 use Rattle.records.specs.Fixed.{SameSizes, called_fixed}
 use Rattle.carried.specs.Carried as carried
-use Rattle.carried.specs.Carried.{Carried, carried_books, Demand3Carried, demand_3_carried}
+use Rattle.carried.specs.Carried.{Carried, Demand3Carried}
+use Rattle.carried.proofs.Carried.{carried_books, demand_3_carried}
 
 -- from the scalars s and the tables t on, the operations os leave the scalars r and the tables u
 pub data InPlace (S : Settings) : Scalars → Tables → List Operation → Scalars → Tables → Type 0 where

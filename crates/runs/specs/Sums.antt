@@ -15,14 +15,14 @@ use Rattle.rules.specs.Calls as calls
 use Rattle.rules.specs.Calls.{Operation, Call, answer, after, done}
 use Rattle.rules.specs.Counting.{Counted, takes_in, receipt_counts, deposit_step_counts, consolidation_step_counts}
 use Rattle.rules.specs.Counting.{counts, call_counts}
-use Rattle.conservation.specs.Demand3.{demand_3}
+use Rattle.conservation.proofs.Demand3.{demand_3}
 use Rattle.primitives.specs.declared.Scalars.{Scalars}
 use Rattle.records.specs.Books.{Tables, books_of, call_on, Called}
 use Rattle.records.specs.Layout.{balance_at}
 use Rattle.records.specs.Reading.{validators_count, deposits_count, validator_read}
 use Rattle.acceptance.specs.Held.{balances_in, amounts_in, held_form}
 use Rattle.file_format.specs.Words.{words}
-use Rattle.file_format.specs.FieldsLaws.{impossible}
+use Rattle.file_format.proofs.FieldsLaws.{impossible}
 use Rattle.file_format.specs.Calls.{call_format}
 use Rattle.calls_reader.specs.Widths.{code_at, call_value_at, fields_good}
 use Rattle.file_calls.specs.Ready.{CallAt, operation_at}

@@ -7,7 +7,7 @@ use lib.ListN.{drop}
 use Rattle.file_format.specs.Words.{words}
 use Rattle.file_format.specs.Fields.{many}
 use Rattle.file_format.specs.Books.{validator}
-use Rattle.file_format.specs.AccessLaws.{fixed_validator}
+use Rattle.file_format.proofs.AccessLaws.{fixed_validator}
 use Rattle.file_words.specs.Laws.{many_start, many_stopped, many_more, many_end}
 use Rattle.books_file.proofs.validators_ok.Statement.{statement}
 use Rattle.books_file.proofs.validators_ok.Tie as tie

@@ -6,7 +6,7 @@ use native.Mathlib.Omega.{arith}
 use Rattle.lists.specs.Base.{every}
 use Rattle.records.specs.Books.{Tables, tables}
 use Rattle.file_format.specs.Words.{is_byte}
-use Rattle.file_format.specs.FileLaws.{bytes_known}
+use Rattle.file_format.proofs.FileLaws.{bytes_known}
 use Rattle.books_writer.specs.Laws.{ready, handed_refused, buffer_short, all_written}
 use Rattle.books_writer.proofs.write_books.Statement.{statement}
 use Rattle.books_writer.proofs.write_books.Tie as tie

@@ -4,7 +4,7 @@ use native.Mathlib.Omega.{arith}
 use borrow.Author.Rules.{rules}
 use Rattle.lists.specs.Base.{every}
 use Rattle.file_format.specs.Words.{is_byte}
-use Rattle.file_format.specs.FileLaws.{bytes_known}
+use Rattle.file_format.proofs.FileLaws.{bytes_known}
 use Rattle.calls_writer.specs.Opened.{part_length, opened_long, opened_broken, opened_full}
 use Rattle.calls_writer.specs.Opened.{opened_short, opened_done}
 use Rattle.calls_writer.proofs.open.Statement.{statement}

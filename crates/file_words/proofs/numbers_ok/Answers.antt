@@ -1,7 +1,7 @@
 -- `file_words::numbers_ok` meets its contract.
 use Rattle.std.proofs.Common.{sym, rules}
 use Rattle.file_format.specs.Fields.{number}
-use Rattle.file_format.specs.AccessLaws.{fixed_number}
+use Rattle.file_format.proofs.AccessLaws.{fixed_number}
 use Rattle.file_words.specs.Laws.{many_start, many_and, many_done, numbers_outside}
 use Rattle.file_words.proofs.numbers_ok.Goals as goal
 

@@ -13,7 +13,7 @@ use Rattle.rule_laws.specs.Accepted.{Limit, SoundSettings, settings_sound, Sound
 use Rattle.file_format.specs.Fields.{Format, number, flag, is_field, field, many}
 use Rattle.file_format.specs.Books.{settings, validator, deposit, partial, consolidation, books, books_format}
 use Rattle.file_format.specs.Books.{list_of, books_writable, bytes_sized, sized}
-use Rattle.file_format.specs.FieldsLaws.{number_fits}
+use Rattle.file_format.proofs.FieldsLaws.{number_fits}
 
 -- ---- lists
 

@@ -4,10 +4,11 @@ use Rattle.std.proofs.Common.{ap, ◌∙◌}
 use Rattle.rules.specs.Acceptance.{held}
 use Rattle.rules.specs.Calls.{answers, run}
 use Rattle.rules.specs.Examples.{G, mainnet}
-use Rattle.rules.specs.Worked.{opening, worked_calls, worked_answers, worked_sums}
+use Rattle.rules.proofs.Worked.{opening, worked_calls, worked_answers, worked_sums}
 use Rattle.primitives.specs.declared.Scalars.{Scalars}
 use Rattle.records.specs.Books.{Tables, books_of}
-use Rattle.carried.specs.Carried.{Carried, carried_answers, carried_books}
+use Rattle.carried.specs.Carried.{Carried}
+use Rattle.carried.proofs.Carried.{carried_answers, carried_books}
 
 module _ {s r : Scalars} {t u : Tables} {ns : List ℕ} (start : books_of s t ≡ opening)
     (c : Carried mainnet s t worked_calls ns r u) where

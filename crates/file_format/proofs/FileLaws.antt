@@ -12,7 +12,7 @@ use Rattle.lists.specs.Laws.{both, join, every_append, if_true}
 use Rattle.file_format.specs.Words.{wrapping_sum, end_word, with_end, is_byte, bytes, words}
 use Rattle.file_format.specs.Fields.{Format}
 use Rattle.file_format.specs.File.{write_file, file_ok, read_file}
-use Rattle.file_format.specs.FieldsLaws.{fits, Lawful, word_fits}
+use Rattle.file_format.proofs.FieldsLaws.{fits, Lawful, word_fits}
 
 -- ---- bytes and words
 

@@ -13,7 +13,7 @@ use Rattle.file_format.specs.Fields.{Format, ◌⊗◌, number, flag, field, fie
 use Rattle.file_format.specs.Fields.{field_rest, many}
 use Rattle.file_format.specs.Books.{validator, deposit, partial, consolidation, list_of}
 use Rattle.tables.specs.Rows.{rows}
-use Rattle.file_format.specs.FieldsLaws.{first_word, field_only, number_only}
+use Rattle.file_format.proofs.FieldsLaws.{first_word, field_only, number_only}
 
 -- ---- formats that take n words
 

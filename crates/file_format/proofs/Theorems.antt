@@ -9,10 +9,10 @@ use Rattle.file_format.specs.Words.{is_byte}
 use Rattle.file_format.specs.Books.{books_writable, sized}
 use Rattle.file_format.specs.Calls.{calls_writable}
 use Rattle.file_format.specs.File.{write_books, read_books, write_calls, read_calls}
-use Rattle.file_format.specs.BooksLaws.{books_format_lawful}
-use Rattle.file_format.specs.CallsLaws.{calls_format_lawful}
-use Rattle.file_format.specs.AcceptedLaws as accepted
-use Rattle.file_format.specs.FileLaws as file
+use Rattle.file_format.proofs.BooksLaws.{books_format_lawful}
+use Rattle.file_format.proofs.CallsLaws.{calls_format_lawful}
+use Rattle.file_format.proofs.AcceptedLaws as accepted
+use Rattle.file_format.proofs.FileLaws as file
 
 -- ---- the books file
 

@@ -13,9 +13,9 @@ use Rattle.file_format.specs.Calls.{withdrawal_parts, withdrawal_of, withdrawals
 use Rattle.file_format.specs.Calls.{receipt_of, exit_of, request_of, consolidation_of}
 use Rattle.file_format.specs.Calls.{written, written_as, read_as, call_format, call}
 use Rattle.file_format.specs.Calls.{calls_limit, calls_format}
-use Rattle.file_format.specs.FieldsLaws.{fits, Kept, Only, Lawful, impossible, number_lawful, flag_lawful}
-use Rattle.file_format.specs.FieldsLaws.{field_lawful, pair_lawful, parts_lawful, coded_lawful}
-use Rattle.file_format.specs.FieldsLaws.{counted_lawful, headed_lawful}
+use Rattle.file_format.proofs.FieldsLaws.{fits, Kept, Only, Lawful, impossible, number_lawful, flag_lawful}
+use Rattle.file_format.proofs.FieldsLaws.{field_lawful, pair_lawful, parts_lawful, coded_lawful}
+use Rattle.file_format.proofs.FieldsLaws.{counted_lawful, headed_lawful}
 
 -- ---- the fields
 

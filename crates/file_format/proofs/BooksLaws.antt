@@ -11,8 +11,8 @@ use Rattle.file_format.specs.Books.{validator_parts, validator_of, deposit, depo
 use Rattle.file_format.specs.Books.{partial, partial_numbers, partial_of}
 use Rattle.file_format.specs.Books.{consolidation, consolidation_numbers, consolidation_of}
 use Rattle.file_format.specs.Books.{books, BooksParts, books_parts, books_from, list_of, books_format}
-use Rattle.file_format.specs.FieldsLaws.{Lawful, number_lawful, flag_lawful, field_lawful, pair_lawful}
-use Rattle.file_format.specs.FieldsLaws.{parts_lawful, many_lawful, many_length, counted_lawful, headed_lawful}
+use Rattle.file_format.proofs.FieldsLaws.{Lawful, number_lawful, flag_lawful, field_lawful, pair_lawful}
+use Rattle.file_format.proofs.FieldsLaws.{parts_lawful, many_lawful, many_length, counted_lawful, headed_lawful}
 
 -- n numbers are those that are read one by one
 numbers_read : (n : ℕ) (xs : List ℕ) → (many number n).domain xs ≡ true → rows n (λ k. get_or xs k 0) ≡ xs

@@ -1,0 +1,11 @@
+pub mod FieldsLaws
+pub mod BooksLaws
+pub mod CallsLaws
+pub mod FileLaws
+pub mod AcceptedLaws
+pub mod AccessLaws
+pub mod PlacesLaws
+pub mod PutLaws
+pub mod Theorems
+pub mod Example
+pub mod Refused
