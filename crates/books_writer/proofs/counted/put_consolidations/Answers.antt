@@ -1,0 +1,26 @@
+use borrow.Author.Rules.{rules}
+use mathlib.Core.Path.{◌≡◌}
+use Prim.Native.Nat.{◌+◌, ◌-◌, ◌≤◌}
+use lib.ListN.{length}
+use Rattle.records.specs.Layout.{consolidation_at}
+use Rattle.file_format.specs.Books.{consolidation}
+use Rattle.file_format.specs.PutLaws.{put}
+use Rattle.books_writer.specs.Lists.{first_records, records_none, records_more, records_done}
+use Rattle.books_writer.specs.Lists.{consolidation_length}
+use Rattle.books_writer.proofs.counted.put_consolidations.Goals as goal
+
+pub loop-i-init : goal.loop-i-init
+loop-i-init c = (search rules, search rules, records_none _ _ _ _)
+
+pub loop-i-preserved : goal.loop-i-preserved
+loop-i-preserved c =
+    let more =
+    records_more consolidation 6 c.args.n _ (λ i h. consolidation_length _) _ _ _ _ _ _
+    (search rules) (search rules) c.loop-i.invariant.2 c.consolidation_at.ensures
+    c.put_consolidation.ensures in
+    (search rules, search rules, more)
+
+pub returns : goal.returns
+returns c =
+    records_done consolidation 6 c.args.n _ (λ i h. consolidation_length _) _ _ _ _ _ (search rules)
+    (search rules) (search rules) c.put_count.ensures c.loop-i.invariant.2
