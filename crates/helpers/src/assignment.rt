@@ -54,8 +54,8 @@ pub fn epoch_assignment(
     churn: Gwei,
     amount: Gwei,
 ) -> AssignmentAnswer
-    ensures result_value { answer_number result ≡ assignment_answer left.0 earliest.0 activation_exit.0 churn.0 amount.0 }
-    ensures result_value_2 { answer_assignment result
+    ensures answer { answer_number result ≡ assignment_answer left.0 earliest.0 activation_exit.0 churn.0 amount.0 }
+    ensures assignment { answer_assignment result
         ≡ assignment_result left.0 earliest.0 activation_exit.0 churn.0 amount.0 }
 {
     if churn.0 == 0 {

@@ -32,7 +32,7 @@ pub fn get_total_active_balance(settings: Settings, scalars: Scalars, validators
 }
 
 pub fn get_balance_churn_limit(settings: Settings, scalars: Scalars, validators: &[u64]) -> Gwei
-    requires settings_value { sound_settings (settings_of settings) ≡ true }
+    requires settings_are_sound { sound_settings (settings_of settings) ≡ true }
     requires registry { Registry scalars validators.now }
     ensures { (ids ds ps cs : List ℕ)
         → result.0 ≡ get_balance_churn_limit (settings_of settings)
@@ -50,7 +50,7 @@ pub fn get_activation_exit_churn_limit(
     scalars: Scalars,
     validators: &[u64],
 ) -> Gwei
-    requires settings_value { sound_settings (settings_of settings) ≡ true }
+    requires settings_are_sound { sound_settings (settings_of settings) ≡ true }
     requires registry { Registry scalars validators.now }
     ensures { (ids ds ps cs : List ℕ)
         → result.0 ≡ get_activation_exit_churn_limit (settings_of settings)
@@ -65,7 +65,7 @@ pub fn get_consolidation_churn_limit(
     scalars: Scalars,
     validators: &[u64],
 ) -> Gwei
-    requires settings_value { sound_settings (settings_of settings) ≡ true }
+    requires settings_are_sound { sound_settings (settings_of settings) ≡ true }
     requires registry { Registry scalars validators.now }
     ensures { (ids ds ps cs : List ℕ)
         → result.0 ≡ get_consolidation_churn_limit (settings_of settings)

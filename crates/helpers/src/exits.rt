@@ -16,7 +16,7 @@ use crate::assignment::Assignment;
 use primitives::{Epoch, Gwei, Scalars, Settings, ValidatorIndex};
 
 pub fn compute_activation_exit_epoch(settings: Settings, scalars: Scalars) -> Epoch
-    requires settings_value { sound_settings (settings_of settings) ≡ true }
+    requires settings_are_sound { sound_settings (settings_of settings) ≡ true }
     requires epoch_bound { scalars.epoch.0 ≤ BOUND }
     ensures { (t : Tables) → result.0 ≡ compute_activation_exit_epoch (settings_of settings) (books_of scalars t) }
 {
@@ -32,14 +32,14 @@ fn assign_account(
     churn: Gwei,
     amount: Gwei,
 ) -> Assignment
-    requires settings_value { sound_settings (settings_of settings) ≡ true }
-    requires epoch_bound { (scalars.epoch.0 ≤ BOUND) × (earliest.0 ≤ BOUND) }
-    requires churn_nonzero { (0 < churn.0) × (amount.0 ≤ BOUND) }
-    ensures result_value { (t : Tables)
+    requires settings_are_sound { sound_settings (settings_of settings) ≡ true }
+    requires epochs_bound { (scalars.epoch.0 ≤ BOUND) × (earliest.0 ≤ BOUND) }
+    requires churn_and_amount { (0 < churn.0) × (amount.0 ≤ BOUND) }
+    ensures assigned { (t : Tables)
         → plain_assignment result
         ≡ assign_epoch left.0 earliest.0
         (compute_activation_exit_epoch (settings_of settings) (books_of scalars t)) churn.0 amount.0 }
-    ensures epoch_bound_2 { result.epoch.0 + 2 ^ 16 < FAR }
+    ensures far_off { result.epoch.0 + 2 ^ 16 < FAR }
 {
     let activation_exit = compute_activation_exit_epoch(settings, scalars);
     let account = churn_account::account_after(left, earliest, activation_exit, churn, amount);
@@ -56,15 +56,15 @@ pub fn compute_exit_epoch_and_update_churn(
     validators: &[u64],
     amount: Gwei,
 ) -> Assignment
-    requires settings_value { sound_settings (settings_of settings) ≡ true }
+    requires settings_are_sound { sound_settings (settings_of settings) ≡ true }
     requires registry { Registry scalars validators.now }
     requires accounts { Accounts scalars }
     requires amount_bound { amount.0 ≤ BOUND }
-    ensures result_value { (ids ds ps cs : List ℕ)
+    ensures assigned { (ids ds ps cs : List ℕ)
         → plain_assignment result
         ≡ compute_exit_epoch_and_update_churn (settings_of settings)
         (books_of scalars (tables ids validators.now ds ps cs)) amount.0 }
-    ensures epoch_bound { result.epoch.0 + 2 ^ 16 < FAR }
+    ensures far_off { result.epoch.0 + 2 ^ 16 < FAR }
 {
     let churn = crate::churn::get_activation_exit_churn_limit(settings, scalars, validators);
     let left = scalars.exit_balance_to_consume;
@@ -79,13 +79,13 @@ pub fn assign_consolidation_epoch(
     churn: Gwei,
     amount: Gwei,
 ) -> Assignment
-    requires settings_value { sound_settings (settings_of settings) ≡ true }
+    requires settings_are_sound { sound_settings (settings_of settings) ≡ true }
     requires accounts { Accounts scalars }
-    requires churn_nonzero { (0 < churn.0) × (amount.0 ≤ BOUND) }
-    ensures result_value { (t : Tables)
+    requires churn_and_amount { (0 < churn.0) × (amount.0 ≤ BOUND) }
+    ensures assigned { (t : Tables)
         → plain_assignment result
         ≡ consolidation_assignment (settings_of settings) (books_of scalars t) churn.0 amount.0 }
-    ensures epoch_bound { result.epoch.0 + 2 ^ 16 < FAR }
+    ensures far_off { result.epoch.0 + 2 ^ 16 < FAR }
 {
     let left = scalars.consolidation_balance_to_consume;
     let earliest = scalars.earliest_consolidation_epoch;
@@ -102,15 +102,15 @@ pub fn assign_exit(
     validators: &[u64],
     i: ValidatorIndex,
 ) -> Assignment
-    requires settings_value { sound_settings (settings_of settings) ≡ true }
+    requires settings_are_sound { sound_settings (settings_of settings) ≡ true }
     requires registry { Registry scalars validators.now }
     requires accounts { Accounts scalars }
     requires i_lt_validators { i.0 < scalars.validators }
-    ensures result_value { (ids ds ps cs : List ℕ)
+    ensures assigned { (ids ds ps cs : List ℕ)
         → plain_assignment result
         ≡ exit_assignment (settings_of settings) i.0
         (books_of scalars (tables ids validators.now ds ps cs)) }
-    ensures epoch_bound { result.epoch.0 + 2 ^ 16 < FAR }
+    ensures far_off { result.epoch.0 + 2 ^ 16 < FAR }
 {
     let amount = records::registry::effective_balance_at(validators, i);
     compute_exit_epoch_and_update_churn(settings, scalars, validators, amount)
@@ -132,8 +132,8 @@ pub fn begin_exit(
     i: ValidatorIndex,
     a: Assignment,
 ) -> Scalars
-    requires i_lt_validators { (i.0 < scalars.validators) × (scalars.validators ≤ validators_fit validators.old) }
-    requires min_validator_withdrawability_delay_bound { a.epoch.0 + settings.min_validator_withdrawability_delay < 2 ^ 64 }
+    requires validators_in { (i.0 < scalars.validators) × (scalars.validators ≤ validators_fit validators.old) }
+    requires delay_fits { a.epoch.0 + settings.min_validator_withdrawability_delay < 2 ^ 64 }
     ensures { (ids ds ps cs : List ℕ)
         → Stepped (begin_exit (settings_of settings) i.0 (plain_assignment a)) scalars
         (tables ids validators.old ds ps cs) (tables ids validators.new ds ps cs) result }
