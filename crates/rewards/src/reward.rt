@@ -21,12 +21,12 @@ pub fn reward_accepted(
     amount: Gwei,
     sums: bool,
 ) -> Outcome
-    requires consolidations_value { handed_refusal (settings_of settings)
+    requires accepted { handed_refusal (settings_of settings)
         (books_of scalars
         (tables identities.now validators.old deposits.now partials.now consolidations.now))
         (room_of (tables identities.now validators.old deposits.now partials.now consolidations.now))
         ≡ 0 }
-    requires sums_value { sums
+    requires sums_within { sums
         ≡ leb (held (books_of scalars
         (tables identities.now validators.old deposits.now partials.now consolidations.now))
         + amount.0) rule.BOUND }

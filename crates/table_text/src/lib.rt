@@ -61,8 +61,8 @@ fn put_line(out: &mut [u8], at: usize, position: u64, code: u64, answer: u64, to
 
 // One line for each of n calls, behind the header. The results hold three numbers a call: code, answer, total.
 fn put_lines(results: &[u64], n: usize, out: &mut [u8])
-    requires n_in_bounds { 3 * n ≤ length results.now }
-    requires n_in_bounds_2 { 23 + 32 * n ≤ length out.old }
+    requires results_hold_calls { 3 * n ≤ length results.now }
+    requires out_holds_lines { 23 + 32 * n ≤ length out.old }
     ensures { out.new ≡ sets out.old 23 (text_lines 1 (lines_of results.now n)) }
 {
     let mut i: usize = 0;
@@ -77,8 +77,8 @@ fn put_lines(results: &[u64], n: usize, out: &mut [u8])
 
 // The table of n calls; its length.
 pub fn put_table(results: &[u64], n: usize, out: &mut [u8]) -> usize
-    requires n_in_bounds { 3 * n ≤ length results.now }
-    requires n_in_bounds_2 { 23 + 32 * n ≤ length out.old }
+    requires results_hold_calls { 3 * n ≤ length results.now }
+    requires out_holds_lines { 23 + 32 * n ≤ length out.old }
     ensures { Printed (table_text (lines_of results.now n)) out.old out.new result }
 {
     put_bytes(out, 0, b"call code answer total\n");
