@@ -4,9 +4,10 @@
 #![tactic(auto)]
 
 ghost use Rattle.std.specs.Prelude.{◌≡◌, length};
-ghost use Rattle.io.specs.Counts.{IsPrefixLen};
 
-use libc::STDOUT_FILENO;
+use full_reads::read_file;
+use std::rt::Files;
+use std::{fs, io};
 
 // One byte more than a file may have, so that a longer one shows.
 fn file_buffer() -> [u8; 65537]
@@ -22,54 +23,30 @@ fn closing_buffer() -> [u8; 68968]
     [0; 68968]
 }
 
-// The start of the file in the buffer; how many bytes. A missing file counts as empty.
-fn read(name: &[u8], buf: &mut [u8]) -> usize
-    ensures { IsPrefixLen result buf.new }
-{
-    let fd = os::open_read(name);
-    if fd < 0 {
-        return 0;
-    }
-    let n = io::read_full(fd, buf);
-    libc::close(fd);
-    n
-}
-
-fn print_refused(number: u8) {
+fn print_refused(to: &impl Print, number: u8) -> io::Result<()> {
     let mut line = [0u8; 11];
     table_text::put_refused(&mut line, number);
-    io::write_all(STDOUT_FILENO, &line);
+    to.write_all(&line)
 }
 
-// Writes the file and says so in one line.
-fn write(bytes: &[u8]) {
-    let fd = os::open_overwrite(b"closing.w");
-    if fd < 0 {
-        os::fail(b"closing.w");
-        return;
+// Writes the file and says so in one line, or says on the standard error why it could not.
+fn write(rt: &(impl Files + Print + Eprint), bytes: &[u8]) -> io::Result<()> {
+    match fs::write(rt, "closing.w", bytes) {
+        Ok(()) => println!(rt; "closing.w {} bytes", bytes.len()),
+        Err(e) => eprintln!(rt; "closing.w: {e}"),
     }
-    let written = io::write_all(fd, bytes);
-    libc::close(fd);
-    if !written {
-        os::fail(b"closing.w");
-        return;
-    }
-    io::write_all(STDOUT_FILENO, b"closing.w ");
-    io::print_decimal(STDOUT_FILENO, bytes.len() as u64);
-    io::write_all(STDOUT_FILENO, b" bytes\n");
 }
 
-fn main() {
+fn main(rt: HostRuntime) -> io::Result<()> {
     let mut opening = file_buffer();
     let mut calls = file_buffer();
     let mut out = closing_buffer();
-    let n = read(b"opening.w", &mut opening);
-    let m = read(b"calls.w", &mut calls);
+    let n = read_file(&rt, "opening.w", &mut opening)?;
+    let m = read_file(&rt, "calls.w", &mut calls)?;
     let written = books_output::closing::closing_file(&opening[..n], &calls[..m], &mut out);
     if written.number != 0 {
-        print_refused(written.number);
-        return;
+        return print_refused(&rt, written.number);
     }
     let k = written.length;
-    write(&out[..k]);
+    write(&rt, &out[..k])
 }

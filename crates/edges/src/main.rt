@@ -5,24 +5,23 @@
 
 use electra::total::Total;
 use helpers::assignment;
-use libc::STDOUT_FILENO;
 use primitives::{
     BOUND, Epoch, FAR_FUTURE_EPOCH, Gwei, Scalars, Settings, ValidatorIndex, WithdrawalIndex,
 };
+use std::io;
 
 const G: u64 = 1_000_000_000;
 
-fn number(n: u64) {
-    io::write_all(STDOUT_FILENO, b" ");
-    io::print_decimal(STDOUT_FILENO, n);
+fn number(to: &impl Print, n: u64) -> io::Result<()> {
+    print!(to; " {n}")
 }
 
 fn wide(b: u8) -> u64 {
     b as u64
 }
 
-fn end() {
-    io::write_all(STDOUT_FILENO, b"\n");
+fn end(to: &impl Print) -> io::Result<()> {
+    println!(to)
 }
 
 // At epoch 1000, with two validators and all other scalars 0.
@@ -73,8 +72,8 @@ fn identities(prefix: u8) -> [u8; 160] {
     out
 }
 
-fn assign(amount: u64, churn: u64) {
-    io::write_all(STDOUT_FILENO, b"assignment");
+fn assign(to: &impl Print, amount: u64, churn: u64) -> io::Result<()> {
+    print!(to; "assignment")?;
     let a = assignment::epoch_assignment(
         Gwei(32 * G),
         Epoch(1005),
@@ -82,16 +81,16 @@ fn assign(amount: u64, churn: u64) {
         Gwei(churn),
         Gwei(amount),
     );
-    number(a.number() as u64);
+    number(to, a.number() as u64)?;
     let given = a.assigned();
-    number(given.epoch.0);
-    number(given.left.0);
-    end();
+    number(to, given.epoch.0)?;
+    number(to, given.left.0)?;
+    end(to)
 }
 
 // A carry of 2 G, and deposits of 30 G and of this amount for the first validator; the allowance is 128 G.
-fn deposit_step(amount: u64) {
-    io::write_all(STDOUT_FILENO, b"deposits");
+fn deposit_step(to: &impl Print, amount: u64) -> io::Result<()> {
+    print!(to; "deposits")?;
     let ids = identities(1);
     let mut vs = validators(32 * G);
     let mut ds: [u64; 8] = [0, 30 * G, 0, amount, 0, 0, 0, 0];
@@ -107,16 +106,16 @@ fn deposit_step(amount: u64) {
         &ps,
         &cs,
     );
-    number(r.number as u64);
-    number(vs[12]);
+    number(to, r.number as u64)?;
+    number(to, vs[12])?;
     let s = r.scalars;
-    number(s.deposits as u64);
-    number(s.deposit_balance_to_consume.0);
-    end();
+    number(to, s.deposits as u64)?;
+    number(to, s.deposit_balance_to_consume.0)?;
+    end(to)
 }
 
-fn effective_step(balance: u64) {
-    io::write_all(STDOUT_FILENO, b"effective");
+fn effective_step(to: &impl Print, balance: u64) -> io::Result<()> {
+    print!(to; "effective")?;
     let ids = identities(2);
     let mut vs = validators(balance);
     let ds = [0u64; 8];
@@ -131,14 +130,14 @@ fn effective_step(balance: u64) {
         &ps,
         &cs,
     );
-    number(r.number as u64);
-    number(vs[2]);
-    end();
+    number(to, r.number as u64)?;
+    number(to, vs[2])?;
+    end(to)
 }
 
 // The first validator, exited and withdrawable at this epoch, into the second, whose prefix is 01.
-fn consolidation_step(slashed: u64, withdrawable: u64) {
-    io::write_all(STDOUT_FILENO, b"consolidations");
+fn consolidation_step(to: &impl Print, slashed: u64, withdrawable: u64) -> io::Result<()> {
+    print!(to; "consolidations")?;
     let mut ids = identities(1);
     let mut vs = validators(32 * G);
     vs[0] = slashed;
@@ -156,18 +155,18 @@ fn consolidation_step(slashed: u64, withdrawable: u64) {
         &ps,
         &mut cs,
     );
-    number(r.number as u64);
-    number(vs[13]);
-    number(wide(ids[128]));
-    number(ds[1]);
+    number(to, r.number as u64)?;
+    number(to, vs[13])?;
+    number(to, wide(ids[128]))?;
+    number(to, ds[1])?;
     let s = r.scalars;
-    number(s.consolidations as u64);
-    end();
+    number(to, s.consolidations as u64)?;
+    end(to)
 }
 
 // A turn from this epoch with one deposit of 1 G waiting, and the total after it.
-fn turn(epoch: u64) {
-    io::write_all(STDOUT_FILENO, b"turn");
+fn turn(to: &impl Print, epoch: u64) -> io::Result<()> {
+    print!(to; "turn")?;
     let mut ids = identities(1);
     let mut vs = validators(40 * G);
     let mut ds: [u64; 8] = [0, G, 0, 0, 0, 0, 0, 0];
@@ -183,18 +182,18 @@ fn turn(epoch: u64) {
         &ps,
         &mut cs,
     );
-    number(r.number as u64);
-    number(vs[12]);
+    number(to, r.number as u64)?;
+    number(to, vs[12])?;
     let s = r.scalars;
-    number(s.epoch.0);
+    number(to, s.epoch.0)?;
     if let Total::Held(sum) = electra::total::held(settings, s, &ids, &vs, &ds, &ps, &cs) {
-        number(sum.0);
+        number(to, sum.0)?;
     }
-    end();
+    end(to)
 }
 
-fn reward(i: usize, amount: u64) {
-    io::write_all(STDOUT_FILENO, b"reward");
+fn reward(to: &impl Print, i: usize, amount: u64) -> io::Result<()> {
+    print!(to; "reward")?;
     let ids = identities(1);
     let mut vs = validators(32 * G);
     let ds = [0u64; 8];
@@ -211,13 +210,13 @@ fn reward(i: usize, amount: u64) {
         ValidatorIndex(i),
         Gwei(amount),
     );
-    number(r.number as u64);
-    number(vs[12]);
-    end();
+    number(to, r.number as u64)?;
+    number(to, vs[12])?;
+    end(to)
 }
 
-fn penalty(amount: u64) {
-    io::write_all(STDOUT_FILENO, b"penalty");
+fn penalty(to: &impl Print, amount: u64) -> io::Result<()> {
+    print!(to; "penalty")?;
     let ids = identities(1);
     let mut vs = validators(32 * G);
     let ds = [0u64; 8];
@@ -234,14 +233,14 @@ fn penalty(amount: u64) {
         ValidatorIndex(0),
         Gwei(amount),
     );
-    number(r.number as u64);
-    number(vs[12]);
-    end();
+    number(to, r.number as u64)?;
+    number(to, vs[12])?;
+    end(to)
 }
 
 // A waiting partial withdrawal of 5 G, effective balance 32 G, this balance: the list that is expected.
-fn expected(balance: u64) {
-    io::write_all(STDOUT_FILENO, b"expected");
+fn expected(to: &impl Print, balance: u64) -> io::Result<()> {
+    print!(to; "expected")?;
     let ids = identities(2);
     let vs = validators(balance);
     let ds = [0u64; 8];
@@ -256,19 +255,19 @@ fn expected(balance: u64) {
         &ps,
         &cs,
     );
-    number(e.number as u64);
+    number(to, e.number as u64)?;
     let listed = e.withdrawals;
-    number(listed.count as u64);
+    number(to, listed.count as u64)?;
     let list = listed.list;
     let w = list[0];
-    number(w.validator_index.0 as u64);
-    number(w.amount.0);
-    end();
+    number(to, w.validator_index.0 as u64)?;
+    number(to, w.amount.0)?;
+    end(to)
 }
 
 // The partial queue is full with the second validator's entry; the first, whose key ends in 1, asks for this amount.
-fn request(amount: u64) {
-    io::write_all(STDOUT_FILENO, b"request");
+fn request(to: &impl Print, amount: u64) -> io::Result<()> {
+    print!(to; "request")?;
     let mut ids = identities(2);
     ids[47] = 1;
     let mut vs = validators(40 * G);
@@ -289,16 +288,16 @@ fn request(amount: u64) {
         key,
         Gwei(amount),
     );
-    number(r.number as u64);
-    number(vs[8]);
+    number(to, r.number as u64)?;
+    number(to, vs[8])?;
     let s = r.scalars;
-    number(s.partials as u64);
-    end();
+    number(to, s.partials as u64)?;
+    end(to)
 }
 
 // The first validator into the second, with a minimum churn of 320 G, which leaves 64 G to consolidations.
-fn consolidation(epoch: u64) {
-    io::write_all(STDOUT_FILENO, b"consolidation");
+fn consolidation(to: &impl Print, epoch: u64) -> io::Result<()> {
+    print!(to; "consolidation")?;
     let mut row = primitives::MAINNET;
     row[3] = 320 * G;
     let ids = identities(1);
@@ -319,40 +318,40 @@ fn consolidation(epoch: u64) {
         Epoch(epoch),
         true,
     );
-    number(r.number as u64);
-    number(vs[8]);
-    number(vs[10]);
+    number(to, r.number as u64)?;
+    number(to, vs[8])?;
+    number(to, vs[10])?;
     let s = r.scalars;
-    number(s.consolidation_balance_to_consume.0);
-    end();
+    number(to, s.consolidation_balance_to_consume.0)?;
+    end(to)
 }
 
-fn main() {
-    assign(32 * G, 128 * G);
-    assign(32 * G + 1, 128 * G);
-    assign(32 * G, 0);
-    assign(FAR_FUTURE_EPOCH, 1);
-    deposit_step(100 * G);
-    deposit_step(100 * G + 1);
-    effective_step(33_250_000_000);
-    effective_step(33_250_000_001);
-    effective_step(31_750_000_000);
-    effective_step(31_749_999_999);
-    consolidation_step(1, 995);
-    consolidation_step(0, 1001);
-    consolidation_step(0, 1000);
-    turn(1000);
-    turn(BOUND);
-    reward(0, G);
-    reward(2, G);
-    reward(0, BOUND - 72 * G);
-    reward(0, BOUND - 72 * G + 1);
-    penalty(G);
-    penalty(FAR_FUTURE_EPOCH);
-    expected(33 * G);
-    expected(32 * G);
-    request(1);
-    request(0);
-    consolidation(1000);
-    consolidation(1001);
+fn main(rt: HostRuntime) -> io::Result<()> {
+    assign(&rt, 32 * G, 128 * G)?;
+    assign(&rt, 32 * G + 1, 128 * G)?;
+    assign(&rt, 32 * G, 0)?;
+    assign(&rt, FAR_FUTURE_EPOCH, 1)?;
+    deposit_step(&rt, 100 * G)?;
+    deposit_step(&rt, 100 * G + 1)?;
+    effective_step(&rt, 33_250_000_000)?;
+    effective_step(&rt, 33_250_000_001)?;
+    effective_step(&rt, 31_750_000_000)?;
+    effective_step(&rt, 31_749_999_999)?;
+    consolidation_step(&rt, 1, 995)?;
+    consolidation_step(&rt, 0, 1001)?;
+    consolidation_step(&rt, 0, 1000)?;
+    turn(&rt, 1000)?;
+    turn(&rt, BOUND)?;
+    reward(&rt, 0, G)?;
+    reward(&rt, 2, G)?;
+    reward(&rt, 0, BOUND - 72 * G)?;
+    reward(&rt, 0, BOUND - 72 * G + 1)?;
+    penalty(&rt, G)?;
+    penalty(&rt, FAR_FUTURE_EPOCH)?;
+    expected(&rt, 33 * G)?;
+    expected(&rt, 32 * G)?;
+    request(&rt, 1)?;
+    request(&rt, 0)?;
+    consolidation(&rt, 1000)?;
+    consolidation(&rt, 1001)
 }

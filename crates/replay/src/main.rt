@@ -6,57 +6,68 @@
 ghost use Rattle.std.specs.Prelude.{◌≤◌};
 
 use file_words::word_at;
+use full_reads::read_full;
 use recorded_cases::compare::{Counts, Replay, check_first, number, text};
 use recorded_cases::container::{Case, at_most, payload};
 use recorded_cases::{buffers, compare, container};
 use replayed_parts::assignments;
+use std::io::Read;
+use std::rt::Files;
+use std::{fs, io};
 
 // For the program: what `books` prints of the two files.
-fn program(replay: Replay, case: Case, sections: &[u8], out: &mut [u8; 319991]) -> Replay {
+fn program(
+    to: &impl Print,
+    replay: Replay,
+    case: Case,
+    sections: &[u8],
+    out: &mut [u8; 319991],
+) -> io::Result<Replay> {
     if !case.has_flag(container::PROGRAM) {
-        return replay;
+        return Ok(replay);
     }
     let opening = payload(sections, container::OPENING);
     let calls = payload(sections, container::CALLS);
     let put = books_output::books_output(opening, calls, out);
     let printed = payload(sections, container::PRINTED);
-    check_first(replay, b"output", printed, out, put)
+    check_first(to, replay, b"output", printed, out, put)
 }
 
 // A case holds bare assignments, or files for the program, the library or both.
 fn one_case(
+    to: &impl Print,
     replay: Replay,
     case: Case,
     sections: &[u8],
     results: &mut [u64; 29997],
     out: &mut [u8; 319991],
-) -> Replay {
+) -> io::Result<Replay> {
     let rows = payload(sections, container::ASSIGNMENTS);
     if rows.len() != 0 {
-        return assignments::replay(replay, rows, out);
+        return assignments::replay(to, replay, rows, out);
     }
-    let r = program(replay, case, sections, out);
-    replayed_cases::replay(r, case, sections, results, out)
+    let r = program(to, replay, case, sections, out)?;
+    replayed_cases::replay(to, r, case, sections, results, out)
 }
 
 // ---- groups
 
-fn print_group(replay: Replay) {
+fn print_group(to: &impl Print, replay: Replay) -> io::Result<()> {
     if replay.group == 0 {
-        return;
+        return Ok(());
     }
     if replay.group < 10 {
-        text(b"group 0");
+        text(to, b"group 0")?;
     } else {
-        text(b"group ");
+        text(to, b"group ")?;
     }
-    number(replay.group as u64);
+    number(to, replay.group as u64)?;
     let counts = replay.of_group;
-    counts.print();
+    counts.print(to)
 }
 
 // A case that begins: with another group the counts of the last are printed.
-fn begin(replay: Replay, case: Case) -> Replay {
+fn begin(to: &impl Print, replay: Replay, case: Case) -> io::Result<Replay> {
     let one = Counts {
         cases: 1,
         ..Counts::none()
@@ -66,17 +77,17 @@ fn begin(replay: Replay, case: Case) -> Replay {
             case: case.number,
             ..replay
         };
-        return r.counted(one);
+        return Ok(r.counted(one));
     }
-    print_group(replay);
+    print_group(to, replay)?;
     let before = replay.all();
-    Replay {
+    Ok(Replay {
         case: case.number,
         group: case.group,
         of_group: one,
         before,
         whole: replay.whole,
-    }
+    })
 }
 
 // ---- the container
@@ -89,42 +100,44 @@ fn broken(replay: Replay) -> Replay {
 }
 
 // The bytes of a case, put at the start of a buffer.
-fn read(fd: i32, sections: &mut [u8], bytes: usize) -> usize {
+fn read(file: &mut impl Read, sections: &mut [u8], bytes: usize) -> io::Result<usize> {
     let n = at_most(bytes, sections);
-    io::read_full(fd, &mut sections[..n])
+    read_full(file, &mut sections[..n])
 }
 
 fn in_buffer(
+    to: &impl Print,
     replay: Replay,
     case: Case,
     buffer: &[u8],
     results: &mut [u64; 29997],
     out: &mut [u8; 319991],
-) -> Replay {
+) -> io::Result<Replay> {
     let n = at_most(case.bytes, buffer);
-    one_case(replay, case, &buffer[..n], results, out)
+    one_case(to, replay, case, &buffer[..n], results, out)
 }
 
 fn next(
-    fd: i32,
+    to: &impl Print,
+    file: &mut impl Read,
     replay: Replay,
     sections: &mut [u8; 368640],
     results: &mut [u64; 29997],
     out: &mut [u8; 319991],
-) -> Replay {
-    let case = container::next_case(fd);
+) -> io::Result<Replay> {
+    let case = container::next_case(file)?;
     if !case.whole {
-        return broken(replay);
+        return Ok(broken(replay));
     }
-    let got = read(fd, sections, case.bytes);
+    let got = read(file, sections, case.bytes)?;
     if got != case.bytes {
-        return broken(replay);
+        return Ok(broken(replay));
     }
-    let r = begin(replay, case);
-    in_buffer(r, case, sections, results, out)
+    let r = begin(to, replay, case)?;
+    in_buffer(to, r, case, sections, results, out)
 }
 
-fn cases(fd: i32, n: u32) -> Replay
+fn cases(to: &impl Print, file: &mut impl Read, n: u32) -> io::Result<Replay>
     requires { n ≤ 65536 }
 {
     let mut sections = buffers::sections();
@@ -134,42 +147,39 @@ fn cases(fd: i32, n: u32) -> Replay
     let mut i: u32 = 0;
     while i < n {
         if !r.whole {
-            return r;
+            return Ok(r);
         }
-        r = next(fd, r, &mut sections, &mut results, &mut out);
+        r = next(to, file, r, &mut sections, &mut results, &mut out)?;
         i += 1;
     }
-    r
+    Ok(r)
 }
 
 // The cases that the head counts, and nothing behind them.
-fn replay_file(fd: i32) {
+fn replay_file(to: &impl Print, file: &mut impl Read) -> io::Result<()> {
     let mut head = [0u8; 16];
-    let got = io::read_full(fd, &mut head);
-    let r = cases(fd, word_at(&head, 1) % 65536);
-    let behind = io::read_full(fd, &mut head);
-    print_group(r);
-    text(b"all groups");
+    let got = read_full(file, &mut head)?;
+    let r = cases(to, file, word_at(&head, 1) % 65536)?;
+    let behind = read_full(file, &mut head)?;
+    print_group(to, r)?;
+    text(to, b"all groups")?;
     let all = r.all();
-    all.print();
+    all.print(to)?;
     if !r.whole | (got != 16) | (behind != 0) {
-        text(b"the container is broken\n");
+        text(to, b"the container is broken\n")?;
+    }
+    Ok(())
+}
+
+fn replay_path(rt: &(impl Files + Print), path: &str) -> io::Result<()> {
+    println!(rt; "{path}")?;
+    match fs::open(rt, path) {
+        Ok(mut file) => replay_file(rt, &mut file),
+        Err(_) => text(rt, b"no such file\n"),
     }
 }
 
-fn replay_path(path: &[u8]) {
-    text(path);
-    text(b"\n");
-    let fd = os::open_read(path);
-    if fd < 0 {
-        text(b"no such file\n");
-        return;
-    }
-    replay_file(fd);
-    libc::close(fd);
-}
-
-fn main() {
-    replay_path(b"recorded.bin");
-    replay_path(b"wrong.bin");
+fn main(rt: HostRuntime) -> io::Result<()> {
+    replay_path(&rt, "recorded.bin")?;
+    replay_path(&rt, "wrong.bin")
 }

@@ -6,6 +6,7 @@ use recorded_cases::compare::{Replay, check_first};
 use recorded_cases::container;
 use recorded_cases::container::at_most;
 use replayed_parts::{expected, unchanged};
+use std::io;
 
 // The books written into the first n bytes of a buffer.
 fn write(
@@ -34,6 +35,7 @@ fn write(
 
 // The closing books, written into a buffer that they fill.
 fn closing(
+    to: &impl Print,
     replay: Replay,
     settings: Settings,
     scalars: Scalars,
@@ -44,7 +46,7 @@ fn closing(
     consolidations: &[u64],
     sections: &[u8],
     out: &mut [u8; 319991],
-) -> Replay {
+) -> io::Result<Replay> {
     let recorded = container::payload(sections, container::CLOSING);
     let written = write(
         settings,
@@ -58,13 +60,14 @@ fn closing(
         recorded.len(),
     );
     if written.number != answers::DONE {
-        return refusal(replay, written.number, recorded, out);
+        return refusal(to, replay, written.number, recorded, out);
     }
-    check_first(replay, b"closing books", recorded, out, written.length)
+    check_first(to, replay, b"closing books", recorded, out, written.length)
 }
 
 // In a buffer that is a byte shorter the writer answers 61.
 fn closing_short(
+    to: &impl Print,
     replay: Replay,
     settings: Settings,
     scalars: Scalars,
@@ -75,10 +78,10 @@ fn closing_short(
     consolidations: &[u64],
     sections: &[u8],
     out: &mut [u8; 319991],
-) -> Replay {
+) -> io::Result<Replay> {
     let recorded = container::payload(sections, container::CLOSING);
     if recorded.len() == 0 {
-        return replay;
+        return Ok(replay);
     }
     let written = write(
         settings,
@@ -91,11 +94,12 @@ fn closing_short(
         out,
         recorded.len() - 1,
     );
-    refusal(replay, written.number, b"refused 61\n", out)
+    refusal(to, replay, written.number, b"refused 61\n", out)
 }
 
 // The closing books, in a buffer that they fill and in one that is too short, and the list that is expected on them.
 fn check_closing(
+    to: &impl Print,
     replay: Replay,
     settings: Settings,
     scalars: Scalars,
@@ -106,8 +110,9 @@ fn check_closing(
     consolidations: &[u64],
     sections: &[u8],
     out: &mut [u8; 319991],
-) -> Replay {
+) -> io::Result<Replay> {
     let r = closing(
+        to,
         replay,
         settings,
         scalars,
@@ -118,8 +123,9 @@ fn check_closing(
         consolidations,
         sections,
         out,
-    );
+    )?;
     let s = closing_short(
+        to,
         r,
         settings,
         scalars,
@@ -130,8 +136,9 @@ fn check_closing(
         consolidations,
         sections,
         out,
-    );
+    )?;
     expected::check_list(
+        to,
         s,
         settings,
         scalars,
@@ -147,6 +154,7 @@ fn check_closing(
 
 // What is compared on the closing books; of books that were lent and refused, that they are unchanged.
 pub fn afterwards(
+    to: &impl Print,
     replay: Replay,
     lent: bool,
     settings: Settings,
@@ -158,7 +166,7 @@ pub fn afterwards(
     consolidations: &[u64],
     sections: &[u8],
     out: &mut [u8; 319991],
-) -> Replay {
+) -> io::Result<Replay> {
     let handed = electra::total::held(
         settings,
         scalars,
@@ -170,6 +178,7 @@ pub fn afterwards(
     );
     if lent & (handed.number() != answers::DONE) {
         return unchanged::check_unchanged(
+            to,
             replay,
             settings,
             scalars,
@@ -183,6 +192,7 @@ pub fn afterwards(
         );
     }
     check_closing(
+        to,
         replay,
         settings,
         scalars,

@@ -15,6 +15,7 @@ use recorded_cases::compare::Replay;
 use recorded_cases::container::Case;
 use recorded_cases::{buffers, container, laid};
 use runs::Carried;
+use std::io;
 
 // The opening laid into the tables without a test.
 fn lay(
@@ -114,6 +115,7 @@ fn carry_out(
 
 // The calls on books that were opened, and what they leave.
 fn on_books(
+    to: &impl Print,
     replay: Replay,
     case: Case,
     settings: Settings,
@@ -126,7 +128,7 @@ fn on_books(
     sections: &[u8],
     results: &mut [u64; 29997],
     out: &mut [u8; 319991],
-) -> Replay {
+) -> io::Result<Replay> {
     let carried = carry_out(
         case.has_flag(container::STEPS_ALONE),
         settings,
@@ -140,11 +142,13 @@ fn on_books(
         results,
     );
     if carried.number != answers::DONE {
-        return refused(replay, carried.number, sections, out);
+        return refused(to, replay, carried.number, sections, out);
     }
     let after = carried.scalars;
+    let tabled = table(to, replay, results, carried.count, sections, out)?;
     afterwards(
-        table(replay, results, carried.count, sections, out),
+        to,
+        tabled,
         case.has_flag(container::LENT),
         settings,
         after,
@@ -160,6 +164,7 @@ fn on_books(
 
 // On tables whose room is the case's.
 fn on_tables(
+    to: &impl Print,
     replay: Replay,
     case: Case,
     sections: &[u8],
@@ -170,7 +175,7 @@ fn on_tables(
     consolidations: &mut [u64],
     results: &mut [u64; 29997],
     out: &mut [u8; 319991],
-) -> Replay {
+) -> io::Result<Replay> {
     let opened = open(
         case.has_flag(container::LENT),
         sections,
@@ -181,11 +186,12 @@ fn on_tables(
         consolidations,
     );
     if opened.number != answers::DONE {
-        return refused(replay, opened.number, sections, out);
+        return refused(to, replay, opened.number, sections, out);
     }
     let settings = opened.settings;
     let scalars = opened.scalars;
     on_books(
+        to,
         replay,
         case,
         settings,
@@ -203,14 +209,15 @@ fn on_tables(
 
 // A case for the library; another is left as it is.
 pub fn replay(
+    to: &impl Print,
     replay: Replay,
     case: Case,
     sections: &[u8],
     results: &mut [u64; 29997],
     out: &mut [u8; 319991],
-) -> Replay {
+) -> io::Result<Replay> {
     if !case.has_flag(container::LIBRARY) {
-        return replay;
+        return Ok(replay);
     }
     let mut identities = buffers::identities();
     let mut validators = buffers::validators();
@@ -223,6 +230,7 @@ pub fn replay(
     let pairs = room * 2;
     let triples = room * 3;
     on_tables(
+        to,
         replay,
         case,
         sections,

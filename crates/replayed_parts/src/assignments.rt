@@ -5,6 +5,7 @@ use helpers::assignment;
 use primitives::{Epoch, Gwei};
 use recorded_cases::compare::{Counts, Replay, check_first};
 use recorded_cases::words::{number, put_number, put_word};
+use std::io;
 
 // What the library answers, behind the five numbers of a row.
 fn put_answer(out: &mut [u8], k: usize, number: u8, left: Gwei, epoch: Epoch)
@@ -53,12 +54,17 @@ fn assign_all(rows: &[u8], n: usize, out: &mut [u8])
     }
 }
 
-pub fn replay(replay: Replay, rows: &[u8], out: &mut [u8; 319991]) -> Replay {
+pub fn replay(
+    to: &impl Print,
+    replay: Replay,
+    rows: &[u8],
+    out: &mut [u8; 319991],
+) -> io::Result<Replay> {
     let n = rows.len() / 60 % 5333;
     assign_all(rows, n, out);
-    let r = check_first(replay, b"assignments", rows, out, n * 60);
-    r.counted(Counts {
+    let r = check_first(to, replay, b"assignments", rows, out, n * 60)?;
+    Ok(r.counted(Counts {
         assignments: n as u64,
         ..Counts::none()
-    })
+    }))
 }

@@ -6,6 +6,7 @@ use primitives::{Scalars, Settings};
 use recorded_cases::compare::{Replay, check_first};
 use recorded_cases::container;
 use recorded_cases::words::{put_byte, put_number, put_word};
+use std::io;
 
 fn put_address(out: &mut [u8], at: usize, address: [u8; 20])
     requires { at ≤ 2 ^ 40 }
@@ -38,6 +39,7 @@ fn put_list(out: &mut [u8], list: [Withdrawal; 16]) {
 
 // Where a list was recorded. Records past the count are zeros there, and blank in what the library answers.
 pub fn check_list(
+    to: &impl Print,
     replay: Replay,
     settings: Settings,
     scalars: Scalars,
@@ -48,10 +50,10 @@ pub fn check_list(
     consolidations: &[u64],
     sections: &[u8],
     out: &mut [u8; 319991],
-) -> Replay {
+) -> io::Result<Replay> {
     let recorded = container::payload(sections, container::EXPECTED);
     if recorded.len() == 0 {
-        return replay;
+        return Ok(replay);
     }
     let e = operations::expected::get_expected_withdrawals(
         settings,
@@ -66,5 +68,5 @@ pub fn check_list(
     let list = listed.list;
     put_word(out, 0, (listed.count % 65536) as u32);
     put_list(out, list);
-    check_first(replay, b"list expected", recorded, out, 708)
+    check_first(to, replay, b"list expected", recorded, out, 708)
 }

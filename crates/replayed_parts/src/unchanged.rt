@@ -2,12 +2,13 @@
 use primitives::{Scalars, Settings};
 use recorded_cases::compare::{Replay, begins_with, check, check_firsts};
 use recorded_cases::{buffers, container, laid};
+use std::io;
 
-fn check_same(replay: Replay, what: &[u8], same: bool) -> Replay {
+fn check_same(to: &impl Print, replay: Replay, what: &[u8], same: bool) -> io::Result<Replay> {
     if same {
-        return check(replay, what, b"unchanged\n", b"unchanged\n");
+        return check(to, replay, what, b"unchanged\n", b"unchanged\n");
     }
-    check(replay, what, b"unchanged\n", b"changed\n")
+    check(to, replay, what, b"unchanged\n", b"changed\n")
 }
 
 fn same_counts(before: Scalars, after: Scalars) -> bool {
@@ -19,18 +20,20 @@ fn same_counts(before: Scalars, after: Scalars) -> bool {
 
 // The settings and the scalars stand in the first 85 words of a file.
 fn check_front(
+    to: &impl Print,
     replay: Replay,
     settings: Settings,
     scalars: Scalars,
     recorded: &[u8],
     out: &mut [u8; 319991],
-) -> Replay {
+) -> io::Result<Replay> {
     books_writer::front::put_front(out, settings, scalars);
-    check_firsts(replay, b"settings and scalars", recorded, out, 340)
+    check_firsts(to, replay, b"settings and scalars", recorded, out, 340)
 }
 
 // The tables, against others.
 fn check_tables(
+    to: &impl Print,
     replay: Replay,
     wanted_identities: &[u8],
     wanted_validators: &[u64],
@@ -42,22 +45,23 @@ fn check_tables(
     deposits: &[u64],
     partials: &[u64],
     consolidations: &[u64],
-) -> Replay {
+) -> io::Result<Replay> {
     let n = identities.len();
-    let mut r = check_firsts(replay, b"identities", wanted_identities, identities, n);
+    let mut r = check_firsts(to, replay, b"identities", wanted_identities, identities, n)?;
     let same_validators = begins_with(wanted_validators, validators);
-    r = check_same(r, b"validators", same_validators);
+    r = check_same(to, r, b"validators", same_validators)?;
     let same_deposits = begins_with(wanted_deposits, deposits);
-    r = check_same(r, b"deposits", same_deposits);
+    r = check_same(to, r, b"deposits", same_deposits)?;
     let same_partials = begins_with(wanted_partials, partials);
-    r = check_same(r, b"partials", same_partials);
+    r = check_same(to, r, b"partials", same_partials)?;
     let same_consolidations = begins_with(wanted_consolidations, consolidations);
-    check_same(r, b"consolidations", same_consolidations)
+    check_same(to, r, b"consolidations", same_consolidations)
 }
 
 // The tables, against those that the recorded books are laid into: the registry's are as long as the lent ones, since
 // their columns depend on the length.
 fn check_laid(
+    to: &impl Print,
     replay: Replay,
     recorded: &[u8],
     wanted_identities: &mut [u8],
@@ -71,7 +75,7 @@ fn check_laid(
     deposits: &[u64],
     partials: &[u64],
     consolidations: &[u64],
-) -> Replay {
+) -> io::Result<Replay> {
     let before = laid::lay(
         recorded,
         wanted_identities,
@@ -81,6 +85,7 @@ fn check_laid(
         wanted_consolidations,
     );
     let r = check_tables(
+        to,
         replay,
         wanted_identities,
         wanted_validators,
@@ -92,11 +97,12 @@ fn check_laid(
         deposits,
         partials,
         consolidations,
-    );
-    check_same(r, b"counts", same_counts(before, scalars))
+    )?;
+    check_same(to, r, b"counts", same_counts(before, scalars))
 }
 
 pub fn check_unchanged(
+    to: &impl Print,
     replay: Replay,
     settings: Settings,
     scalars: Scalars,
@@ -107,7 +113,7 @@ pub fn check_unchanged(
     consolidations: &[u64],
     sections: &[u8],
     out: &mut [u8; 319991],
-) -> Replay {
+) -> io::Result<Replay> {
     let recorded = container::payload(sections, container::CLOSING);
     let mut is = buffers::identities();
     let mut vs = buffers::validators();
@@ -117,6 +123,7 @@ pub fn check_unchanged(
     let bytes = identities.len() % 40961;
     let words = validators.len() % 3585;
     let tables = check_laid(
+        to,
         replay,
         recorded,
         &mut is[..bytes],
@@ -130,6 +137,6 @@ pub fn check_unchanged(
         deposits,
         partials,
         consolidations,
-    );
-    check_front(tables, settings, scalars, recorded, out)
+    )?;
+    check_front(to, tables, settings, scalars, recorded, out)
 }

@@ -6,57 +6,65 @@
 mod pattern; // text from a pattern and the words of the file
 mod words; // the words of the file, one after another
 
-use libc::STDOUT_FILENO;
-use pattern::show;
-use words::{Reading, next};
+use pattern::{Output, show};
+use std::fs::File;
+use std::io::Stdout;
+use std::{env, fs, io};
+use words::{Input, Reading, next};
 
 // Balances and the churn.
-fn balance_settings(reading: Reading, buf: &mut [u8; 65536], out: &mut [u8; 65536]) -> Reading {
+fn balance_settings(reading: Reading, input: &mut Input, out: &mut Output) -> io::Result<Reading> {
     let mut r = show(
         reading,
-        buf,
+        input,
         out,
         0,
         b"books\nsetting min_activation_balance N\n",
-    );
-    r = show(r, buf, out, 0, b"setting max_effective_balance_electra N\n");
-    r = show(r, buf, out, 0, b"setting effective_balance_increment N\n");
+    )?;
     r = show(
         r,
-        buf,
+        input,
+        out,
+        0,
+        b"setting max_effective_balance_electra N\n",
+    )?;
+    r = show(r, input, out, 0, b"setting effective_balance_increment N\n")?;
+    r = show(
+        r,
+        input,
         out,
         0,
         b"setting min_per_epoch_churn_limit_electra N\n",
-    );
+    )?;
     r = show(
         r,
-        buf,
+        input,
         out,
         0,
         b"setting max_per_epoch_activation_exit_churn_limit N\n",
-    );
-    show(r, buf, out, 0, b"setting churn_limit_quotient N\n")
+    )?;
+    show(r, input, out, 0, b"setting churn_limit_quotient N\n")
 }
 
 // Delays in epochs and the hysteresis.
-fn delay_settings(reading: Reading, buf: &mut [u8; 65536], out: &mut [u8; 65536]) -> Reading {
+fn delay_settings(reading: Reading, input: &mut Input, out: &mut Output) -> io::Result<Reading> {
     let mut r = show(
         reading,
-        buf,
+        input,
         out,
         0,
         b"setting shard_committee_period N\nsetting min_validator_withdrawability_delay N\n",
-    );
+    )?;
     r = show(
         r,
-        buf,
+        input,
         out,
         0,
         b"setting max_seed_lookahead N\nsetting hysteresis_quotient N\n",
-    );
+    )?;
     show(
         r,
-        buf,
+        input,
         out,
         0,
         b"setting hysteresis_downward_multiplier N\nsetting hysteresis_upward_multiplier N\n",
@@ -64,95 +72,106 @@ fn delay_settings(reading: Reading, buf: &mut [u8; 65536], out: &mut [u8; 65536]
 }
 
 // What a payload and a sweep take at most, and the limits of the lists.
-fn limit_settings(reading: Reading, buf: &mut [u8; 65536], out: &mut [u8; 65536]) -> Reading {
+fn limit_settings(reading: Reading, input: &mut Input, out: &mut Output) -> io::Result<Reading> {
     let mut r = show(
         reading,
-        buf,
+        input,
         out,
         0,
         b"setting max_pending_partials_per_withdrawals_sweep N\n",
-    );
-    r = show(r, buf, out, 0, b"setting max_withdrawals_per_payload N\n");
+    )?;
+    r = show(r, input, out, 0, b"setting max_withdrawals_per_payload N\n")?;
     r = show(
         r,
-        buf,
+        input,
         out,
         0,
         b"setting max_validators_per_withdrawals_sweep N\n",
-    );
+    )?;
     r = show(
         r,
-        buf,
+        input,
         out,
         0,
         b"setting validator_registry_limit N\nsetting pending_balance_deposits_limit N\n",
-    );
+    )?;
     r = show(
         r,
-        buf,
+        input,
         out,
         0,
         b"setting pending_partial_withdrawals_limit N\n",
-    );
-    show(r, buf, out, 0, b"setting pending_consolidations_limit N\n")
+    )?;
+    show(
+        r,
+        input,
+        out,
+        0,
+        b"setting pending_consolidations_limit N\n",
+    )
 }
 
-fn settings(reading: Reading, buf: &mut [u8; 65536], out: &mut [u8; 65536]) -> Reading {
-    let balances = balance_settings(reading, buf, out);
-    let delays = delay_settings(balances, buf, out);
-    limit_settings(delays, buf, out)
+fn settings(reading: Reading, input: &mut Input, out: &mut Output) -> io::Result<Reading> {
+    let balances = balance_settings(reading, input, out)?;
+    let delays = delay_settings(balances, input, out)?;
+    limit_settings(delays, input, out)
 }
 
-fn scalars(reading: Reading, buf: &mut [u8; 65536], out: &mut [u8; 65536]) -> Reading {
+fn scalars(reading: Reading, input: &mut Input, out: &mut Output) -> io::Result<Reading> {
     let mut r = show(
         reading,
-        buf,
+        input,
         out,
         0,
         b"scalar epoch N\nscalar next_withdrawal_index N\n",
-    );
+    )?;
     r = show(
         r,
-        buf,
+        input,
         out,
         0,
         b"scalar next_withdrawal_validator_index N\nscalar deposit_receipts_start_index N\n",
-    );
+    )?;
     r = show(
         r,
-        buf,
+        input,
         out,
         0,
         b"scalar deposit_balance_to_consume N\nscalar exit_balance_to_consume N\n",
-    );
+    )?;
     r = show(
         r,
-        buf,
+        input,
         out,
         0,
         b"scalar earliest_exit_epoch N\nscalar consolidation_balance_to_consume N\n",
-    );
-    show(r, buf, out, 0, b"scalar earliest_consolidation_epoch N\n")
+    )?;
+    show(r, input, out, 0, b"scalar earliest_consolidation_epoch N\n")
 }
 
-fn validator(reading: Reading, buf: &mut [u8; 65536], out: &mut [u8; 65536], i: usize) -> Reading {
+fn validator(
+    reading: Reading,
+    input: &mut Input,
+    out: &mut Output,
+    i: usize,
+) -> io::Result<Reading> {
     let mut r = show(
         reading,
-        buf,
+        input,
         out,
         i,
         b"validator I public_key K withdrawal_credentials C slashed F",
-    );
+    )?;
     r = show(
         r,
-        buf,
+        input,
         out,
         i,
         b" effective_balance N activation_eligibility_epoch N activation_epoch N",
-    );
+    )?;
     show(
         r,
-        buf,
+        input,
         out,
         i,
         b" exit_epoch N withdrawable_epoch N balance N\n",
@@ -162,18 +181,18 @@ fn validator(reading: Reading, buf: &mut [u8; 65536], out: &mut [u8; 65536], i: 
 // Record i of a list: 0 validators, 1 deposits, 2 partial withdrawals, 3 consolidations, 4 withdrawals of a call.
 fn record(
     reading: Reading,
-    buf: &mut [u8; 65536],
-    out: &mut [u8; 65536],
+    input: &mut Input,
+    out: &mut Output,
     list: u32,
     i: usize,
-) -> Reading {
+) -> io::Result<Reading> {
     if list == 0 {
-        return validator(reading, buf, out, i);
+        return validator(reading, input, out, i);
     }
     if list == 1 {
         return show(
             reading,
-            buf,
+            input,
             out,
             i,
             b"pending_balance_deposit I index N amount N\n",
@@ -182,7 +201,7 @@ fn record(
     if list == 2 {
         return show(
             reading,
-            buf,
+            input,
             out,
             i,
             b"pending_partial_withdrawal I index N amount N withdrawable_epoch N\n",
@@ -191,7 +210,7 @@ fn record(
     if list == 3 {
         return show(
             reading,
-            buf,
+            input,
             out,
             i,
             b"pending_consolidation I source_index N target_index N\n",
@@ -199,7 +218,7 @@ fn record(
     }
     show(
         reading,
-        buf,
+        input,
         out,
         i,
         b"withdrawal I index N validator_index N address A amount N\n",
@@ -209,55 +228,60 @@ fn record(
 // A count below the limit, then as many records.
 fn records(
     reading: Reading,
-    buf: &mut [u8; 65536],
-    out: &mut [u8; 65536],
+    input: &mut Input,
+    out: &mut Output,
     limit: u32,
     heading: &[u8],
     list: u32,
-) -> Reading {
-    let counted = next(reading, buf);
+) -> io::Result<Reading> {
+    let counted = next(reading, input)?;
     let n = (counted.word % 0x1000_0000) as usize;
     let good = file_words::is_word(2, limit, counted.word);
-    let mut r = show(counted.only_if(good), buf, out, n, heading);
-    let mut i: usize = 0;
-    while i < n {
+    let mut r = show(counted.only_if(good), input, out, n, heading)?;
+    for i in 0..n {
         if !r.good {
-            return r;
+            return Ok(r);
         }
-        r = record(r, buf, out, list, i);
-        i += 1;
+        r = record(r, input, out, list, i)?;
     }
-    r
+    Ok(r)
 }
 
-fn books(reading: Reading, buf: &mut [u8; 65536], out: &mut [u8; 65536]) -> Reading {
-    let set = settings(reading, buf, out);
-    let mut r = scalars(set, buf, out);
-    r = records(r, buf, out, 0x1000_0000, b"validators I\n", 0);
-    r = records(r, buf, out, 0x1000_0000, b"pending_balance_deposits I\n", 1);
+fn books(reading: Reading, input: &mut Input, out: &mut Output) -> io::Result<Reading> {
+    let set = settings(reading, input, out)?;
+    let mut r = scalars(set, input, out)?;
+    r = records(r, input, out, 0x1000_0000, b"validators I\n", 0)?;
     r = records(
         r,
-        buf,
+        input,
+        out,
+        0x1000_0000,
+        b"pending_balance_deposits I\n",
+        1,
+    )?;
+    r = records(
+        r,
+        input,
         out,
         0x1000_0000,
         b"pending_partial_withdrawals I\n",
         2,
-    );
-    records(r, buf, out, 0x1000_0000, b"pending_consolidations I\n", 3)
+    )?;
+    records(r, input, out, 0x1000_0000, b"pending_consolidations I\n", 3)
 }
 
 // A reward, a penalty or a deposit receipt, codes 1 to 3.
 fn balance_fields(
     reading: Reading,
-    buf: &mut [u8; 65536],
-    out: &mut [u8; 65536],
+    input: &mut Input,
+    out: &mut Output,
     code: u32,
     i: usize,
-) -> Reading {
+) -> io::Result<Reading> {
     if code == 1 {
         return show(
             reading,
-            buf,
+            input,
             out,
             i,
             b"call I reward validator N amount N\n",
@@ -266,7 +290,7 @@ fn balance_fields(
     if code == 2 {
         return show(
             reading,
-            buf,
+            input,
             out,
             i,
             b"call I penalty validator N amount N\n",
@@ -274,26 +298,26 @@ fn balance_fields(
     }
     let r = show(
         reading,
-        buf,
+        input,
         out,
         i,
         b"call I deposit_receipt public_key K withdrawal_credentials C",
-    );
-    show(r, buf, out, i, b" amount N index N valid F\n")
+    )?;
+    show(r, input, out, i, b" amount N index N valid F\n")
 }
 
 // A voluntary exit, a withdrawal request or a consolidation, codes 4 to 6.
 fn exit_fields(
     reading: Reading,
-    buf: &mut [u8; 65536],
-    out: &mut [u8; 65536],
+    input: &mut Input,
+    out: &mut Output,
     code: u32,
     i: usize,
-) -> Reading {
+) -> io::Result<Reading> {
     if code == 4 {
         return show(
             reading,
-            buf,
+            input,
             out,
             i,
             b"call I voluntary_exit validator N epoch N valid F\n",
@@ -302,7 +326,7 @@ fn exit_fields(
     if code == 5 {
         return show(
             reading,
-            buf,
+            input,
             out,
             i,
             b"call I withdrawal_request source_address A public_key K amount N\n",
@@ -310,7 +334,7 @@ fn exit_fields(
     }
     show(
         reading,
-        buf,
+        input,
         out,
         i,
         b"call I consolidation source_index N target_index N epoch N valid F\n",
@@ -320,94 +344,89 @@ fn exit_fields(
 // What follows the code.
 fn fields(
     reading: Reading,
-    buf: &mut [u8; 65536],
-    out: &mut [u8; 65536],
+    input: &mut Input,
+    out: &mut Output,
     code: u32,
     i: usize,
-) -> Reading {
+) -> io::Result<Reading> {
     if code <= 3 {
-        return balance_fields(reading, buf, out, code, i);
+        return balance_fields(reading, input, out, code, i);
     }
     if code <= 6 {
-        return exit_fields(reading, buf, out, code, i);
+        return exit_fields(reading, input, out, code, i);
     }
     if code == 7 {
-        return show(reading, buf, out, i, b"call I turn\n");
+        return show(reading, input, out, i, b"call I turn\n");
     }
-    let r = show(reading, buf, out, i, b"call I withdrawals\n");
-    records(r, buf, out, 17, b"withdrawals I\n", 4)
+    let r = show(reading, input, out, i, b"call I withdrawals\n")?;
+    records(r, input, out, 17, b"withdrawals I\n", 4)
 }
 
 // Call i, counted from 1 as in the table of `books`.
-fn call(reading: Reading, buf: &mut [u8; 65536], out: &mut [u8; 65536], i: usize) -> Reading {
-    let r = next(reading, buf);
+fn call(reading: Reading, input: &mut Input, out: &mut Output, i: usize) -> io::Result<Reading> {
+    let r = next(reading, input)?;
     let code = r.word % 0x1000_0000;
     let good = file_words::is_word(9, 9, r.word) & (0 < code);
     if !good {
-        return r.only_if(false);
+        return Ok(r.only_if(false));
     }
-    fields(r, buf, out, code, i)
+    fields(r, input, out, code, i)
 }
 
-fn calls(reading: Reading, buf: &mut [u8; 65536], out: &mut [u8; 65536]) -> Reading {
-    let counted = next(reading, buf);
+fn calls(reading: Reading, input: &mut Input, out: &mut Output) -> io::Result<Reading> {
+    let counted = next(reading, input)?;
     let n = (counted.word % 0x1000_0000) as usize;
     let good = file_words::is_word(2, 10_000, counted.word);
-    let mut r = show(counted.only_if(good), buf, out, n, b"calls I\n");
-    let mut i: usize = 0;
-    while i < n {
+    let mut r = show(counted.only_if(good), input, out, n, b"calls I\n")?;
+    for i in 0..n {
         if !r.good {
-            return r;
+            return Ok(r);
         }
-        i += 1;
-        r = call(r, buf, out, i);
+        r = call(r, input, out, i + 1)?;
     }
-    r
+    Ok(r)
 }
 
 // The end word, and nothing after it.
-fn end(reading: Reading, buf: &mut [u8; 65536], out: &mut [u8; 65536]) {
-    let last = next(reading, buf);
+fn end(reading: Reading, input: &mut Input, out: &mut Output) -> io::Result<()> {
+    let last = next(reading, input)?;
     let sum = 0x8000_0000 + last.sum % 0x1000_0000;
-    let behind = next(last, buf);
+    let behind = next(last, input)?;
     let good = last.good & (last.word == sum) & (behind.words == 0);
-    pattern::flush(last, out);
+    pattern::flush(last, out)?;
     if good {
-        io::write_all(STDOUT_FILENO, b"end\n");
-        return;
+        return out.to.write_all(b"end\n");
     }
     if pattern::within_line(last, out) {
-        io::write_all(STDOUT_FILENO, b"\n");
+        out.to.write_all(b"\n")?;
     }
-    io::write_all(STDOUT_FILENO, b"broken\n");
+    out.to.write_all(b"broken\n")
 }
 
-fn file(fd: i32) {
-    let mut buf = io::large_buffer();
-    let mut out = io::large_buffer();
-    let head = next(words::start(fd), &mut buf);
+fn file(opened: File, to: Stdout) -> io::Result<()> {
+    let mut input = Input::new(opened);
+    let mut out = Output::new(to);
+    let head = next(words::start(), &mut input)?;
     if head.word == 0x1000_0001 {
-        let r = books(head, &mut buf, &mut out);
-        end(r, &mut buf, &mut out);
-        return;
+        let r = books(head, &mut input, &mut out)?;
+        return end(r, &mut input, &mut out);
     }
     let good = head.word == 0x1000_0002;
-    let r = calls(head.only_if(good), &mut buf, &mut out);
-    end(r, &mut buf, &mut out);
+    let r = calls(head.only_if(good), &mut input, &mut out)?;
+    end(r, &mut input, &mut out)
 }
 
-fn main() {
-    let mut path = io::buffer();
-    let length = os::arg(1, &mut path);
-    if os::errno() != 0 {
-        io::write_all(STDOUT_FILENO, b"show: which file?\n");
-        return;
+// The file at this path; where it cannot be opened, the standard error says why.
+fn show_path(rt: &HostRuntime, path: &str) -> io::Result<()> {
+    match fs::open(rt, path) {
+        Ok(opened) => file(opened, rt.stdout()),
+        Err(e) => eprintln!(rt; "{path}: {e}"),
     }
-    let fd = os::open_read(&path[..length]);
-    if fd < 0 {
-        os::fail(&path[..length]);
-        return;
+}
+
+fn main(rt: HostRuntime) -> io::Result<()> {
+    match env::args(&rt)?.nth(1) {
+        Some(path) => show_path(&rt, path.as_str()),
+        None => println!(rt; "show: which file?"),
     }
-    file(fd);
-    libc::close(fd);
 }
