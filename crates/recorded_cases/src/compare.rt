@@ -137,13 +137,11 @@ fn is_text(bytes: &[u8]) -> bool {
 
 // In hexadecimal, 32 bytes a line.
 fn print_bytes(to: &impl Print, bytes: &[u8]) -> io::Result<()> {
-    let mut i: usize = 0;
-    while i < bytes.len() {
-        print!(to; "{:02x}", bytes[i])?;
+    for (i, b) in bytes.iter().enumerate() {
+        print!(to; "{:02x}", *b)?;
         if i % 32 == 31 {
             text(to, b"\n")?;
         }
-        i += 1;
     }
     text(to, b"\n")
 }

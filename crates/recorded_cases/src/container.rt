@@ -1,6 +1,6 @@
 // The container of the recorded cases: the head of a case, and the sections behind it.
 ghost use Rattle.std.specs.Prelude.{◌≤◌, length};
-ghost use Rattle.io.specs.Counts.{IsPrefixLen};
+ghost use Rattle.recorded_cases.specs.Counts.{IsPrefixLen};
 
 use file_words::word_at;
 use full_reads::read_full;
