@@ -19,7 +19,7 @@ file_length-length-requires c =
     c.args.consolidations.now in
     let opened = lent in
     let k = ready _ _ opened (sym c.handed-handed.ensures ∙ c.if-handed-ne-DONE.false) in
-    record { validators_bound = k.most_validators; deposits_bound = k.most_deposits; partials_bound = k.most_partials; consolidations_bound = k.most_consolidations; }
+    record { validators_bound = k.most_validators; deposits_bound = k.most_deposits; partials_bound = k.most_partials; consolidations_bound = k.most_consolidations }
 
 pub returns-then-out-length : goal.returns-then-out-length
 returns-then-out-length c =
@@ -33,7 +33,7 @@ pub put_books-requires : goal.put_books-requires
 put_books-requires c =
     let lent = tables c.args.identities.now c.args.validators.now c.args.deposits.now c.args.partials.now
     c.args.consolidations.now in
-    let opened = lent in record { ready = ready _ _ opened (sym c.handed-handed.ensures ∙ c.if-handed-ne-DONE.false); scalars_in_bounds = omega (arith, c.file_length-length.ensures, c.if-out-length.false); }
+    let opened = lent in record { ready = ready _ _ opened (sym c.handed-handed.ensures ∙ c.if-handed-ne-DONE.false); scalars_in_bounds = omega (arith, c.file_length-length.ensures, c.if-out-length.false) }
 
 pub returns : goal.returns
 returns c =

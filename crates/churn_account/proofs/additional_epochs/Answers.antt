@@ -18,9 +18,9 @@ overflow_sub-result-then-available-amount c =
 pub returns-then-available-amount : goal.returns-then-available-amount
 returns-then-available-amount c =
     let a = c.args in
-    let above = c.if-available-amount.true in record { epochs_value = additional_some a.available.0 a.churn.0 a.amount.0 above; left_value = left_by_remainder a.available.0 a.churn.0 a.amount.0 c.requires above; }
+    let above = c.if-available-amount.true in record { epochs_value = additional_some a.available.0 a.churn.0 a.amount.0 above; left_value = left_by_remainder a.available.0 a.churn.0 a.amount.0 c.requires above }
 
 pub returns : goal.returns
 returns c =
     let a = c.args in
-    record { epochs_value = additional_none a.available.0 a.churn.0 a.amount.0 c.if-available-amount.false; left_value = omega arith; }
+    record { epochs_value = additional_none a.available.0 a.churn.0 a.amount.0 c.if-available-amount.false; left_value = omega arith }

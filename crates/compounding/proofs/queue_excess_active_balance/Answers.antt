@@ -40,7 +40,10 @@ returns c =
       read,
       c.if-balance-least.false,
     ) in
-    rw c.with_deposits.ensures record { by_index = queued S a.i.0 a.scalars a.validators.now a.deposits.now
+    rw c.with_deposits.ensures record {
+      by_index = queued S a.i.0 a.scalars a.validators.now a.deposits.now
           c.requires.i_lt_validators.0 high _ _
           c.set_balance.ensures
-          (rw read at c.push_deposit.ensures); value = rw (entries_high S.min_activation_balance balance high); }
+          (rw read at c.push_deposit.ensures);
+      value = rw (entries_high S.min_activation_balance balance high);
+    }

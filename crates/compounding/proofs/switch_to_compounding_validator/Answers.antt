@@ -29,7 +29,7 @@ queue_excess_active_balance-requires c =
     let entries =
     entries_read (settings_of a.settings) a.i.0 a.scalars a.identities.now a.validators.now
     a.deposits.now p.i_lt_validators.0 compounds in
-    record { i_lt_validators = (p.i_lt_validators.0, p.i_lt_validators.2); i_bound = rw (← entries [] []) (p.by_index [] []); }
+    record { i_lt_validators = (p.i_lt_validators.0, p.i_lt_validators.2); i_bound = rw (← entries [] []) (p.by_index [] []) }
 
 pub returns : goal.returns
 returns c =
@@ -40,6 +40,9 @@ returns c =
     let q = c.queue_excess_active_balance in
     let entries =
     entries_read S a.i.0 a.scalars a.identities.now a.validators.now a.deposits.now
-    p.i_lt_validators.0 compounds in record { by_index_2 = switched S a.i.0 a.scalars a.identities.now a.validators.now a.deposits.now
+    p.i_lt_validators.0 compounds in record {
+      by_index_2 = switched S a.i.0 a.scalars a.identities.now a.validators.now a.deposits.now
           p.i_lt_validators.0 compounds _ _ _ c.set_compounding_prefix.ensures q.result
-          (ap (λ (s : Scalars). s.validators) q.ensures.value) q.ensures.by_index; by_index_3 = λ ps cs. rw (entries ps cs) q.ensures.value; }
+          (ap (λ (s : Scalars). s.validators) q.ensures.value) q.ensures.by_index;
+      by_index_3 = λ ps cs. rw (entries ps cs) q.ensures.value;
+    }

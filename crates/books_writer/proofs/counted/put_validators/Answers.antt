@@ -17,7 +17,7 @@ put_validator-requires c =
     let ids = c.args.identities.now in
     let ws = c.args.validators.now in
     let within : c.loop-i.i < c.args.n = search rules in
-    record { k_in_bounds = search rules; slashed_bound = flag_small ids ws _ _ _ c.validator_at-v.ensures c.requires.1.1.0 within; }
+    record { k_in_bounds = search rules; slashed_bound = flag_small ids ws _ _ _ c.validator_at-v.ensures c.requires.1.1.0 within }
 
 pub loop-i-preserved : goal.loop-i-preserved
 loop-i-preserved c =
