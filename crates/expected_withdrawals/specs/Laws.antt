@@ -1,5 +1,5 @@
 -- The laws of the loops: one entry or validator, a full list, the end; and what the list holds after both loops.
-use Rattle.std.specs.Prelude.{◌≡◌, ◌≢◌, Bool, ◌&&◌, ◌||◌, set}
+use Rattle.std.specs.Prelude.{◌≡◌, Bool, ◌&&◌, ◌||◌, set}
 use Rattle.std.proofs.Math.Path.{refl, ap}
 use Rattle.std.proofs.Common.{sym, ◌∙◌, add-zero, le_of_suc-le-suc, not-suc-le-zero, length-append}
 use Rattle.std.proofs.Math.Bool.{true, false}

@@ -64,8 +64,8 @@ fn withdrawal_of(
     i: ValidatorIndex,
     amount: Gwei,
 ) -> Withdrawal
-    requires count_bound { (count < 16) × (first.0 ≤ 2 ^ 62) }
-    requires i_bound { (i.0 < identities_fit identities.now) × (i.0 < validators_fit validators.now) }
+    requires room { (count < 16) × (first.0 ≤ 2 ^ 62) }
+    requires held { (i.0 < identities_fit identities.now) × (i.0 < validators_fit validators.now) }
     ensures { result ≡ coded_withdrawal (withdrawal_of first.0 count i.0
         (validator_at identities.now validators.now i.0) amount.0) }
 {
@@ -94,8 +94,8 @@ fn is_partial_payable(settings: Settings, validators: &[u64], i: ValidatorIndex)
 
 // What a partial withdrawal that is paid takes: no more than stands above the minimum.
 fn partial_amount(settings: Settings, validators: &[u64], p: PendingPartialWithdrawal) -> Gwei
-    requires index_bound { p.index.0 < validators_fit validators.now }
-    requires min_activation_balance_bound { settings.min_activation_balance.0 ≤ balance_at validators.now p.index.0 }
+    requires held { p.index.0 < validators_fit validators.now }
+    requires above_least { settings.min_activation_balance.0 ≤ balance_at validators.now p.index.0 }
     ensures { (ids : List ℕ)
         → result.0 ≡ partial_amount (settings_of settings) (plain_partial p)
         (validator_at ids validators.now p.index.0) }
