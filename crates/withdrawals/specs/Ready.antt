@@ -4,7 +4,6 @@ use Rattle.std.specs.Prelude.{◌≡◌, true, List, ℕ, ◌^◌, ◌≤◌, �
 use Rattle.std.proofs.Common.{arith}
 use Rattle.lists.specs.Base.{every}
 use Rattle.rules.specs.Types as rule
-use Rattle.rules.specs.Helpers.{count}
 use Rattle.rules.specs.BlockProcessing.{get_expected_withdrawals, same_withdrawals}
 use Rattle.rules.specs.Acceptance.{sound_settings, sound_books}
 use Rattle.rules.specs.Calls.{enough_room}

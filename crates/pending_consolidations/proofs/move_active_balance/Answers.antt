@@ -1,0 +1,25 @@
+use mathlib.Core.List.{[]}
+use native.Mathlib.Omega.{arith}
+use Rattle.primitives.specs.Settings.{settings_of}
+use Rattle.pending_consolidations.proofs.ConsolidationStep.{target_small, moved}
+use Rattle.pending_consolidations.proofs.move_active_balance.Goals as goal
+
+pub increase_balance-requires : goal.increase_balance-requires
+increase_balance-requires c =
+    let a = c.args in
+    let p = c.requires in
+    let active = c.get_active_balance-active_balance in record {
+      i_bound = omega (arith, p, c.decrease_balance.auto);
+      delta_bound = target_small (settings_of a.settings) a.scalars a.identities.now a.validators.now a.source.0
+          a.target.0 active.result.0 p.source_lt_validators active.ensures _ c.decrease_balance.ensures
+          (p.by_index [] [] []);
+    }
+
+pub returns : goal.returns
+returns c =
+    let a = c.args in
+    let active = c.get_active_balance-active_balance in
+    moved (settings_of a.settings) a.scalars a.identities.now a.validators.now a.source.0
+    a.target.0 active.result.0 c.requires.source_lt_validators
+    active.ensures _ c.decrease_balance.ensures
+    _ c.increase_balance.ensures
