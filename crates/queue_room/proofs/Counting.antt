@@ -10,7 +10,7 @@ use lib.Dec.{ltb}
 use borrow.Author.Tests.{ltb-true, lt-ltb, le-ltb, ne_eqb}
 use Rattle.lists.specs.Base.{when◌then◌else◌, every}
 use Rattle.lists.specs.Laws.{both}
-use Rattle.tables.specs.Rows.{rows}
+use Rattle.tables.specs.Rows.{rows, drop_rows_at}
 use Rattle.tables.specs.Tests.{every_row}
 use Rattle.rules.specs.Types.{Settings, PendingConsolidation, Books}
 use Rattle.rules.specs.EpochProcessing.{consolidate}
@@ -115,3 +115,9 @@ named n m cs k h inside {c} e =
     let t : consolidation_in n c ≡ true = rw e (every_row (consolidation_in n) m (consolidation_at cs) inside k h) in
     let s = both (ltb c.source_index n) (ltb c.target_index n) t in
     (ltb-true c.source_index n s.0, ltb-true c.target_index n s.1)
+
+-- consolidation k is the next one
+pub consolidation_next : (m : ℕ) (cs : List ℕ) (k : ℕ) → k < m
+    → {c : PendingConsolidation} → c ≡ consolidation_at cs k
+    → drop k (rows m (consolidation_at cs)) ≡ c ∷ drop (k + 1) (rows m (consolidation_at cs))
+consolidation_next m cs k h {c} e = rw e (drop_rows_at m (consolidation_at cs) k h)

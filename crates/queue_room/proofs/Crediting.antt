@@ -8,7 +8,7 @@ use lib.ListN.{length, get_or, drop, length-set}
 use borrow.Author.Tests.{ltb-true, lt-ltb, le-ltb}
 use Rattle.lists.specs.Base.{adjust, total, every}
 use Rattle.lists.specs.Laws.{if_true, if_false, length_adjust, total_adjust}
-use Rattle.tables.specs.Rows.{rows, length_rows, get_d_rows}
+use Rattle.tables.specs.Rows.{rows, length_rows, get_d_rows, drop_rows_at}
 use Rattle.tables.specs.Tests.{every_row}
 use Rattle.rules.specs.Types.{BOUND, Validator, PendingBalanceDeposit}
 use Rattle.rules.specs.Update.{with_balance}
@@ -134,3 +134,8 @@ pub owner : (n m : ℕ) (ds : List ℕ) (k : ℕ) → k < m → every (deposit_i
     → {d : PendingBalanceDeposit} → d ≡ deposit_at ds k → d.index < n
 owner n m ds k h inside {d} e =
     ltb-true d.index n (rw e (every_row (deposit_in n) m (deposit_at ds) inside k h))
+
+-- deposit k is the next one
+pub deposit_next : (m : ℕ) (ds : List ℕ) (k : ℕ) → k < m → {d : PendingBalanceDeposit} → d ≡ deposit_at ds k
+    → drop k (rows m (deposit_at ds)) ≡ d ∷ drop (k + 1) (rows m (deposit_at ds))
+deposit_next m ds k h {d} e = rw e (drop_rows_at m (deposit_at ds) k h)

@@ -262,7 +262,7 @@ pub fn turn_fits(
     requires queue_ready { QueueReady settings scalars }
     requires deposits_ready { DepositsReady scalars identities.now validators.now deposits.now }
     requires allowance_ready { AllowanceReady settings scalars }
-    requires by_index { (ps : List ℕ)
+    requires allowance_is { (ps : List ℕ)
         → allowance.0 ≡ get_activation_exit_churn_limit (settings_of settings)
         (books_of scalars (tables identities.now validators.now deposits.now ps consolidations.now)) }
     ensures { (ps : List ℕ)
