@@ -1,3 +1,0 @@
-pub mod After
-pub mod Units
-pub mod Cut
