@@ -1,11 +1,10 @@
-use borrow.Author.Rules.{rules}
 use mathlib.Core.Path.{◌≡◌}
 use Prim.Native.Nat.{◌+◌, ◌-◌, ◌≤◌}
 use lib.ListN.{length}
 use Rattle.records.specs.Layout.{deposit_at}
 use Rattle.file_format.specs.Books.{deposit}
 use Rattle.file_format.specs.PutLaws.{put}
-use Rattle.books_writer.specs.Lists.{first_records, records_none, records_more, records_done, deposit_length}
+use Rattle.books_writer.specs.Lists.{first_records}
 use Rattle.books_writer.proofs.counted.put_deposits.Given as goal
 
 abbrev pub invariant-loop-i : goal.invariant-loop-i

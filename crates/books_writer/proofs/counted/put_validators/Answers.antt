@@ -1,11 +1,10 @@
 use borrow.Author.Rules.{rules}
 use mathlib.Core.Path.{◌≡◌}
-use Prim.Native.Nat.{ℕ, ◌+◌, ◌-◌, ◌≤◌, ◌<◌}
+use Prim.Native.Nat.{ℕ, ◌<◌}
 use lib.ListN.{length}
 use Rattle.records.specs.Layout.{validator_at}
 use Rattle.file_format.specs.Books.{validator}
-use Rattle.file_format.specs.PutLaws.{put}
-use Rattle.books_writer.specs.Lists.{first_records, records_none, records_more, records_done}
+use Rattle.books_writer.specs.Lists.{records_none, records_more, records_done}
 use Rattle.books_writer.specs.Lists.{validator_at_length, flag_small}
 use Rattle.books_writer.proofs.counted.put_validators.Goals as goal
 
@@ -17,7 +16,7 @@ put_validator-requires c =
     let ids = c.args.identities.now in
     let ws = c.args.validators.now in
     let within : c.loop-i.i < c.args.n = search rules in
-    record { k_in_bounds = search rules; slashed_bound = flag_small ids ws _ _ _ c.validator_at-v.ensures c.requires.1.1.0 within }
+    record { k_in_bounds = search rules; slashed_bound = flag_small ids ws _ _ _ c.validator_at-v.ensures c.requires.flags within }
 
 pub loop-i-preserved : goal.loop-i-preserved
 loop-i-preserved c =
