@@ -9,8 +9,12 @@ use Rattle.helpers.proofs.exits.assign_exit.Goals as goal
 pub compute_exit_epoch_and_update_churn-requires : goal.compute_exit_epoch_and_update_churn-requires
 compute_exit_epoch_and_update_churn-requires c =
     let registry = c.requires.registry in
-    let small = registry.effective c.args.i.0 c.requires.i_lt_validators in
-    record { settings_are_sound = c.requires.settings_are_sound; registry = registry; accounts = c.requires.accounts; amount_bound = omega (arith, small) }
+    record {
+      settings_are_sound = c.requires.settings_are_sound;
+      registry = registry;
+      accounts = c.requires.accounts;
+      amount_bound = omega (arith, registry.effective c.args.i.0 c.requires.i_lt_validators);
+    }
 
 pub returns : goal.returns
 unfolding exit_assignment

@@ -16,7 +16,11 @@ assign_account-requires c =
     let some = activation_exit_churn_some (settings_of a.settings) b (settings_sound _ c.requires.settings_are_sound) in
     let churn = c.get_activation_exit_churn_limit-churn.ensures [] [] [] [] in
     let accounts = c.requires.accounts in
-    record { settings_are_sound = c.requires.settings_are_sound; epochs_bound = (accounts.epoch, accounts.exit_epoch); churn_and_amount = (omega arith, c.requires.amount_bound) }
+    record {
+      settings_are_sound = c.requires.settings_are_sound;
+      epochs_bound = (accounts.epoch, accounts.exit_epoch);
+      churn_and_amount = (omega arith, c.requires.amount_bound);
+    }
 
 pub returns : goal.returns
 unfolding compute_exit_epoch_and_update_churn books_of

@@ -1,8 +1,5 @@
-use mathlib.Core.Path.{◌≡◌, ap, ◌∙◌}
-use Prim.Native.Nat.{◌+◌}
+use mathlib.Core.Path.{ap, ◌∙◌}
 use native.Mathlib.Omega.{arith}
-use lib.ListN.{drop}
-use Rattle.lists.specs.Base.{total}
 use Rattle.tables.specs.Totals.{total_step, total_end}
 use Rattle.rules.specs.Helpers.{owed_to}
 use Rattle.records.specs.Layout.{partial_at}
@@ -12,29 +9,24 @@ use Rattle.helpers.proofs.lookups.get_pending_balance_to_withdraw.Goals as goal
 
 pub overflow_add-sum : goal.overflow_add-sum
 overflow_add-sum c =
-    let turn : let a = c.args in let l = c.loop-k in let T = partials_of a.scalars a.partials.now in total (owed_to a.i.0) (drop l.k T) ≡ c.owed_to-owed.result.0 + total (owed_to a.i.0) (drop (l.k + 1) T) = let a = c.args in
+    let a = c.args in
     let l = c.loop-k in
-    let e = c.owed_to-owed.ensures ∙ ap (owed_to a.i.0) c.partial_at-p.ensures in
     omega (
       arith,
-      e,
+      c.owed_to-owed.ensures ∙ ap (owed_to a.i.0) c.partial_at-p.ensures,
       total_step (owed_to a.i.0) a.scalars.partials (partial_at a.partials.now) l.k (omega arith),
-    ) in
-    let a = c.args in
-    let ps = partials_of a.scalars a.partials.now in
-    omega (arith, turn, owed_at_most a.i.0 ps)
+      owed_at_most a.i.0 (partials_of a.scalars a.partials.now),
+    )
 
 pub loop-k-preserved : goal.loop-k-preserved
 loop-k-preserved c =
-    let turn : let a = c.args in let l = c.loop-k in let T = partials_of a.scalars a.partials.now in total (owed_to a.i.0) (drop l.k T) ≡ c.owed_to-owed.result.0 + total (owed_to a.i.0) (drop (l.k + 1) T) = let a = c.args in
+    let a = c.args in
     let l = c.loop-k in
-    let e = c.owed_to-owed.ensures ∙ ap (owed_to a.i.0) c.partial_at-p.ensures in
     omega (
       arith,
-      e,
+      c.owed_to-owed.ensures ∙ ap (owed_to a.i.0) c.partial_at-p.ensures,
       total_step (owed_to a.i.0) a.scalars.partials (partial_at a.partials.now) l.k (omega arith),
-    ) in
-    omega (arith, turn)
+    )
 
 pub returns : goal.returns
 unfolding books_of

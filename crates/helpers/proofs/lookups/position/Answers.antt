@@ -5,9 +5,6 @@ use Rattle.records.specs.Books.{books_of}
 use Rattle.helpers.specs.Lookups.{position_more, position_found, position_none}
 use Rattle.helpers.proofs.lookups.position.Goals as goal
 
-pub loop-i-init : goal.loop-i-init
-loop-i-init c = (omega arith, λ vs. omega arith)
-
 pub returns-then-has_public_key : goal.returns-then-has_public_key
 unfolding books_of
 returns-then-has_public_key c =
