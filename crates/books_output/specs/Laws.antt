@@ -1,5 +1,6 @@
 -- The facts that the functions are proved by.
-use Rattle.std.specs.Prelude.{◌≡◌, refl, Bool, true, false, List, map, ℕ, ◌*◌, ◌/◌, ◌^◌, ◌≤◌, ◌<◌, min, length, take, drop}
+use Rattle.std.specs.Prelude.{◌≡◌, refl, Bool, true, false, List, map, ℕ, ◌*◌, ◌/◌, ◌^◌, ◌≤◌, ◌<◌, min, length}
+use Rattle.std.specs.Prelude.{take, drop}
 use Rattle.std.proofs.Common.{sym, ◌∙◌, length-append, length-take-le, lt-ltb, le-ltb, ne_eqb}
 use Rattle.std.proofs.Math.Path.{ap}
 use Rattle.std.proofs.Math.Option.{Option, some, none}

@@ -11,8 +11,8 @@ use primitives::answers;
 pub fn closing_file(opening: &[u8], calls: &[u8], out: &mut [u8]) -> Written
     ensures closing_written { ClosingWritten opening.now calls.now out.old out.new
         result.number result.length }
-    ensures length_in_bounds { result.length ≤ length out.new }
-    ensures length_value { result.length ≡ length (take result.length out.new) }
+    ensures within { result.length ≤ length out.new }
+    ensures whole { result.length ≡ length (take result.length out.new) }
 {
     let mut identities = buffers::identities();
     let mut validators = buffers::validators();

@@ -69,9 +69,9 @@ pub fn carry_out_files(
     consolidations: &mut [u64],
     results: &mut [u64],
 ) -> Closing
-    requires consolidations_value { room_of (tables identities.old validators.old deposits.old partials.old consolidations.old)
+    requires room { room_of (tables identities.old validators.old deposits.old partials.old consolidations.old)
         ≡ program_room }
-    requires value { 29997 ≡ length results.old }
+    requires results_length { 29997 ≡ length results.old }
     ensures { CarriedFiles (files opening.now calls.now)
         (tables identities.new validators.new deposits.new
         partials.new consolidations.new) results.new result }

@@ -18,8 +18,8 @@ pub const MOST_PRINTED: usize = 319991;
 // second and the third promise follow from the first, and say that `&out[..r]` is there.
 pub fn books_output(opening: &[u8], calls: &[u8], out: &mut [u8]) -> usize
     ensures books_output { BooksOutput opening.now calls.now out.old out.new result }
-    ensures upper_bound { result ≤ length out.new }
-    ensures value { result ≡ length (take result out.new) }
+    ensures within { result ≤ length out.new }
+    ensures whole { result ≡ length (take result out.new) }
 {
     if out.len() < MOST_PRINTED {
         return 0;

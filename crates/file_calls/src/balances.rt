@@ -24,7 +24,7 @@ fn reward(
     requires accepted { Accepted (settings_of settings) scalars
         (tables identities.now validators.old deposits.now partials.now consolidations.now) }
     requires call_at { CallAt file.now k }
-    requires k_value { code_at (words file.now) k ≡ 1 }
+    requires code { code_at (words file.now) k ≡ 1 }
     requires holds { Holds scalars
         (tables identities.now validators.old deposits.now partials.now consolidations.now) sum.0 }
     ensures { Called (settings_of settings) (operation_at file.now k) scalars
@@ -64,7 +64,7 @@ fn penalty(
     requires accepted { Accepted (settings_of settings) scalars
         (tables identities.now validators.old deposits.now partials.now consolidations.now) }
     requires call_at { CallAt file.now k }
-    requires k_value { code_at (words file.now) k ≡ 2 }
+    requires code { code_at (words file.now) k ≡ 2 }
     ensures { Called (settings_of settings) (operation_at file.now k) scalars
         (tables identities.now validators.old deposits.now
         partials.now consolidations.now)
@@ -101,7 +101,7 @@ fn deposit_receipt(
     requires accepted { Accepted (settings_of settings) scalars
         (tables identities.old validators.old deposits.old partials.now consolidations.now) }
     requires call_at { CallAt file.now k }
-    requires k_value { code_at (words file.now) k ≡ 3 }
+    requires code { code_at (words file.now) k ≡ 3 }
     requires holds { Holds scalars
         (tables identities.old validators.old deposits.old partials.now consolidations.now) sum.0 }
     ensures { Called (settings_of settings) (operation_at file.now k) scalars
@@ -147,7 +147,7 @@ pub fn carry_out(
     requires accepted { Accepted (settings_of settings) scalars
         (tables identities.old validators.old deposits.old partials.now consolidations.now) }
     requires call_at { CallAt file.now k }
-    requires k_bound { code_at (words file.now) k ≤ 3 }
+    requires codes { code_at (words file.now) k ≤ 3 }
     requires holds { Holds scalars
         (tables identities.old validators.old deposits.old partials.now consolidations.now) sum.0 }
     ensures { Called (settings_of settings) (operation_at file.now k) scalars

@@ -24,7 +24,7 @@ fn voluntary_exit(
     requires accepted { Accepted (settings_of settings) scalars
         (tables identities.now validators.old deposits.now partials.now consolidations.now) }
     requires call_at { CallAt file.now k }
-    requires k_value { code_at (words file.now) k ≡ 4 }
+    requires code { code_at (words file.now) k ≡ 4 }
     ensures { Called (settings_of settings) (operation_at file.now k) scalars
         (tables identities.now validators.old deposits.now
         partials.now consolidations.now)
@@ -61,7 +61,7 @@ fn withdrawal_request(
     requires accepted { Accepted (settings_of settings) scalars
         (tables identities.now validators.old deposits.now partials.old consolidations.now) }
     requires call_at { CallAt file.now k }
-    requires k_value { code_at (words file.now) k ≡ 5 }
+    requires code { code_at (words file.now) k ≡ 5 }
     ensures { Called (settings_of settings) (operation_at file.now k) scalars
         (tables identities.now validators.old deposits.now
         partials.old consolidations.now)
@@ -100,7 +100,7 @@ fn consolidation(
     requires accepted { Accepted (settings_of settings) scalars
         (tables identities.now validators.old deposits.now partials.now consolidations.old) }
     requires call_at { CallAt file.now k }
-    requires k_value { code_at (words file.now) k ≡ 6 }
+    requires code { code_at (words file.now) k ≡ 6 }
     ensures { Called (settings_of settings) (operation_at file.now k) scalars
         (tables identities.now validators.old deposits.now
         partials.now consolidations.old)
@@ -138,7 +138,7 @@ pub fn carry_out(
     requires accepted { Accepted (settings_of settings) scalars
         (tables identities.now validators.old deposits.now partials.old consolidations.old) }
     requires call_at { CallAt file.now k }
-    requires bound { (4 ≤ code_at (words file.now) k) × (code_at (words file.now) k ≤ 6) }
+    requires codes { (4 ≤ code_at (words file.now) k) × (code_at (words file.now) k ≤ 6) }
     ensures { Called (settings_of settings) (operation_at file.now k) scalars
         (tables identities.now validators.old deposits.now
         partials.old consolidations.old)

@@ -23,7 +23,7 @@ fn turn(
     requires accepted { Accepted (settings_of settings) scalars
         (tables identities.old validators.old deposits.old partials.now consolidations.old) }
     requires call_at { CallAt file.now k }
-    requires k_value { code_at (words file.now) k ≡ 7 }
+    requires code { code_at (words file.now) k ≡ 7 }
     ensures { Called (settings_of settings) (operation_at file.now k) scalars
         (tables identities.old validators.old deposits.old
         partials.now consolidations.old)
@@ -56,7 +56,7 @@ fn withdrawals(
     requires accepted { Accepted (settings_of settings) scalars
         (tables identities.now validators.old deposits.now partials.old consolidations.now) }
     requires call_at { CallAt file.now k }
-    requires k_value { code_at (words file.now) k ≡ 8 }
+    requires code { code_at (words file.now) k ≡ 8 }
     ensures { Called (settings_of settings) (operation_at file.now k) scalars
         (tables identities.now validators.old deposits.now
         partials.old consolidations.now)
@@ -93,7 +93,7 @@ pub fn carry_out(
     requires accepted { Accepted (settings_of settings) scalars
         (tables identities.old validators.old deposits.old partials.old consolidations.old) }
     requires call_at { CallAt file.now k }
-    requires bound { 7 ≤ code_at (words file.now) k }
+    requires codes { 7 ≤ code_at (words file.now) k }
     ensures { Called (settings_of settings) (operation_at file.now k) scalars
         (tables identities.old validators.old deposits.old
         partials.old consolidations.old)

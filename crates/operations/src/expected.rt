@@ -24,7 +24,7 @@ pub fn get_expected_withdrawals(
     partials: &[u64],
     consolidations: &[u64],
 ) -> Expected
-    ensures number_value { result.number
+    ensures answered { result.number
         ≡ handed_refusal (settings_of settings)
         (books_of scalars
         (tables identities.now validators.now deposits.now
@@ -32,7 +32,7 @@ pub fn get_expected_withdrawals(
         (room_of
         (tables identities.now validators.now deposits.now
         partials.now consolidations.now)) }
-    ensures withdrawals_value { result.withdrawals
+    ensures listed { result.withdrawals
         ≡ expected_given (settings_of settings)
         (books_of scalars
         (tables identities.now validators.now deposits.now

@@ -104,7 +104,7 @@ fn carry_out_calls(
     requires accepted { Accepted (settings_of settings) scalars
         (tables identities.old validators.old deposits.old partials.old consolidations.old) }
     requires calls_at { CallsAt file.now n }
-    requires n_in_bounds { 3 * n ≤ length results.old }
+    requires results_hold_calls { 3 * n ≤ length results.old }
     requires holds { Holds scalars
         (tables identities.old validators.old deposits.old partials.old consolidations.old) opening.0 }
     ensures { Done (settings_of settings) scalars

@@ -43,7 +43,7 @@ pub fn carry_out_line(
     requires accepted { Accepted (settings_of settings) scalars
         (tables identities.old validators.old deposits.old partials.old consolidations.old) }
     requires call_at { CallAt file.now k }
-    requires i_in_bounds { 3 * i + 3 ≤ length results.old }
+    requires results_hold_line { 3 * i + 3 ≤ length results.old }
     requires holds { Holds scalars
         (tables identities.old validators.old deposits.old partials.old consolidations.old) sum.0 }
     ensures written { Written (settings_of settings) (operation_at file.now k) scalars
@@ -52,7 +52,7 @@ pub fn carry_out_line(
         (tables identities.new validators.new deposits.new
         partials.new consolidations.new)
         results.old results.new i result.scalars }
-    ensures holds_2 { Holds result.scalars
+    ensures still_holds { Holds result.scalars
         (tables identities.new validators.new deposits.new
         partials.new consolidations.new) result.sum.0 }
 {

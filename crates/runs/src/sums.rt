@@ -13,9 +13,9 @@ use primitives::{Gwei, Scalars, answers};
 
 // What a penalty is about to take; 0 for any other call.
 pub fn penalty_taken(scalars: Scalars, validators: &[u64], file: &[u8], k: usize, code: u32) -> Gwei
-    requires validators_bound { scalars.validators ≤ validators_fit validators.now }
+    requires validators_stored { scalars.validators ≤ validators_fit validators.now }
     requires call_at { CallAt file.now k }
-    requires code_value { code ≡ code_at (words file.now) k }
+    requires code_read { code ≡ code_at (words file.now) k }
     ensures { (ids ds ps cs : List ℕ)
         → result.0 ≡ penalty_taken (operation_at file.now k)
         (books_of scalars (tables ids validators.now ds ps cs)) }
@@ -48,7 +48,7 @@ pub fn held_after(
 ) -> Gwei
     requires held_ready { HeldReady after validators.now deposits.now }
     requires call_at { CallAt file.now k }
-    requires code_value { code ≡ code_at (words file.now) k }
+    requires code_read { code ≡ code_at (words file.now) k }
     requires followed { Followed (operation_at file.now k) number sum.0 taken.0 before.deposits after.deposits
         (balances_in after.validators validators.now + amounts_in after.deposits deposits.now) }
     ensures { result.0

@@ -1,5 +1,6 @@
 -- What an exported call promises: `Called` of the settings and scalars that its slices hold.
-use Rattle.std.specs.Prelude.{◌≡◌, refl, Bool, true, false, not, ◌&&◌, List, [], ◌∷◌, ℕ, suc, ◌≤◌, leb, eqb, length, get_or, drop}
+use Rattle.std.specs.Prelude.{◌≡◌, refl, Bool, true, false, not, ◌&&◌, List, [], ◌∷◌, ℕ, suc, ◌≤◌, leb, eqb, length}
+use Rattle.std.specs.Prelude.{get_or, drop}
 use Rattle.std.proofs.Common.{ap, ◌∙◌, arith, leb-true, eq-eqb, ne_eqb}
 use Rattle.std.proofs.Math.Path.{sym}
 use Rattle.std.proofs.lemmas.Bool.{false≢true, not-true}

@@ -18,10 +18,10 @@ pub extern "C" fn solarbasil_epoch_assignment(
     left_after: &mut u64,
     epoch: &mut u64,
 ) -> u8
-    ensures value { result ≡ assignment_answer left earliest activation_exit churn amount }
-    ensures left_after_after { left_after.new
+    ensures answer { result ≡ assignment_answer left earliest activation_exit churn amount }
+    ensures left_given { left_after.new
         ≡ given result (assign_epoch left earliest activation_exit churn amount).left left_after.old }
-    ensures epoch_after { epoch.new
+    ensures epoch_given { epoch.new
         ≡ given result (assign_epoch left earliest activation_exit churn amount).epoch epoch.old }
 {
     let answer = helpers::assignment::epoch_assignment(

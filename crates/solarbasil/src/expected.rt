@@ -23,27 +23,27 @@ pub extern "C" fn solarbasil_get_expected_withdrawals(
     count: &mut u64,
     partial_count: &mut u64,
 ) -> u8
-    ensures value { result
+    ensures answer { result
         ≡ asked_answer settings.now
         (leb 48 (length records.old) ∷ leb 320 (length addresses.old) ∷ [])
         (tables identities.now validators.now deposits.now
         partials.now consolidations.now) scalars.now }
-    ensures records_after { records.new
+    ensures records_given { records.new
         ≡ given result (with_records records.old
         (expected_in settings.now scalars.now
         (tables identities.now validators.now deposits.now
         partials.now consolidations.now)).list) records.old }
-    ensures addresses_after { addresses.new
+    ensures addresses_given { addresses.new
         ≡ given result (with_addresses addresses.old
         (expected_in settings.now scalars.now
         (tables identities.now validators.now deposits.now
         partials.now consolidations.now)).list) addresses.old }
-    ensures count_after { count.new
+    ensures count_given { count.new
         ≡ given result
         (expected_in settings.now scalars.now
         (tables identities.now validators.now deposits.now
         partials.now consolidations.now)).count count.old }
-    ensures partial_count_after { partial_count.new
+    ensures partial_count_given { partial_count.new
         ≡ given result
         (expected_in settings.now scalars.now
         (tables identities.now validators.now deposits.now

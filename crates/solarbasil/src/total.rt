@@ -20,11 +20,11 @@ pub extern "C" fn solarbasil_total(
     consolidations: &[u64],
     total: &mut u64,
 ) -> u8
-    ensures value { result
+    ensures answer { result
         ≡ asked_answer settings.now []
         (tables identities.now validators.now deposits.now
         partials.now consolidations.now) scalars.now }
-    ensures total_after { total.new
+    ensures total_given { total.new
         ≡ given result
         (held (books_of (scalars_in scalars.now)
         (tables identities.now validators.now deposits.now
