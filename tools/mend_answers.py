@@ -88,12 +88,26 @@ for m in re.finditer(r"^(\./proofs/\S+\.antt):(\d+):(\d+): error: [^\n]*?has no 
         lines[line - 1] = re.sub(rf"\.{re.escape(bad)}(?![\w-])", "." + good, lines[line - 1])
         files[f] = "\n".join(lines)
         count += 1
-for m in re.finditer(r"^(\./proofs/\S+\.antt):(\d+):(\d+): error: [^\n]*has no field `1`[^\n]*?the fields that can be named here are `([^`]+)`$", log, re.M):
-    f, line, col, name = m.group(1), int(m.group(2)), int(m.group(3)), m.group(4)
+for m in re.finditer(r"^(\./proofs/\S+\.antt):(\d+):(\d+): error: [^\n]*(?:\n\s*)?has no field `1`[^\n]*?(?:\n\s*)?the fields that can be named here are ([^\n]+)$", log, re.M):
+    f, line, col, names = m.group(1), int(m.group(2)), int(m.group(3)), re.findall(r"`([^`]+)`", m.group(4))
     t = load(f)
-    t, k = re.subn(r"\.auto(?:\.1)+\.0(?![\w-])", f".auto.{name}", t)
+
+    def auto(x):
+        n = x.group(1).count(".1")
+        if len(names) == 1:
+            return f".auto.{names[0]}"
+        return f".auto.{names[n]}" if n < len(names) else x.group(0)
+
+    t, k = re.subn(r"\.auto((?:\.1)+)\.0(?![\w-])", auto, t)
     count += k
     files[f] = t
+for m in re.finditer(r"^(\./proofs/\S+\.antt):(\d+):(\d+): error: [^\n]*(?:\n\s*)?[^\n]*write `(\.[^`]+)` in place of `(\.[^`]+)`", log, re.M):
+    f, line, good, bad = m.group(1), int(m.group(2)), m.group(4), m.group(5)
+    lines = load(f).split("\n")
+    if line - 1 < len(lines) and bad in lines[line - 1] and good not in lines[line - 1]:
+        lines[line - 1] = re.sub(rf"{re.escape(bad)}(?![\w-])", good, lines[line - 1], count=1)
+        files[f] = "\n".join(lines)
+        count += 1
 sources = {}
 for m in re.finditer(r"^(\./(?:proofs|specs)/\S+\.antt):(\d+):(\d+): error: [^\n]*(?:\n\s*)?has no field `(\d+)`\n\s*its fields are ([^\n]*)", log, re.M):
     f, line, col, fields = m.group(1), int(m.group(2)), int(m.group(3)), re.findall(r"`([^`]+)`", m.group(5))
