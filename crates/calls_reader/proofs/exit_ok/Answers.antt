@@ -1,0 +1,7 @@
+-- `calls_reader::exit_ok` meets its contract.
+use borrow.Author.Rules.{rules}
+use Rattle.calls_reader.specs.Laws.{exit_judged}
+use Rattle.calls_reader.proofs.exit_ok.Goals as goal
+
+pub returns : goal.returns
+returns c = search (exit_judged, rules)
