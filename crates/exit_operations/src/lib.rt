@@ -26,10 +26,10 @@ pub fn exit_within_bound(
     validators: &mut [u64],
     i: ValidatorIndex,
 ) -> Outcome
-    requires settings_value { sound_settings (settings_of settings) ≡ true }
+    requires settings_are_sound { sound_settings (settings_of settings) ≡ true }
     requires registry { Registry scalars validators.old }
     requires accounts { Accounts scalars }
-    requires i_lt_validators { (i.0 < scalars.validators) × (exit_epoch_at validators.old i.0 ≡ FAR) }
+    requires not_begun { (i.0 < scalars.validators) × (exit_epoch_at validators.old i.0 ≡ FAR) }
     ensures { (ids ds ps cs : List ℕ)
         → SoundBooks (settings_of settings) (books_of scalars (tables ids validators.old ds ps cs))
         → Judged (settings_of settings) (initiate_validator_exit (settings_of settings) i.0) scalars
@@ -62,8 +62,8 @@ pub fn voluntary_exit_refusal(
     epoch: Epoch,
     valid: bool,
 ) -> u8
-    requires settings_value { sound_settings (settings_of settings) ≡ true }
-    requires validators_bound { scalars.validators ≤ identities_fit identities.now }
+    requires settings_are_sound { sound_settings (settings_of settings) ≡ true }
+    requires identities_room { scalars.validators ≤ identities_fit identities.now }
     requires registry { Registry scalars validators.now }
     requires accounts { Accounts scalars }
     requires partials { Partials scalars partials.now }
