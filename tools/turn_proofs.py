@@ -22,7 +22,7 @@ TRIVIAL = {"omega arith", "search rules", "cc", "refl", "grind arith"}
 
 
 def norm(s):
-    return s.replace("_", "-")
+    return s.replace("_", "-").strip("«»")
 
 
 def pieces(text):
@@ -147,6 +147,7 @@ def plain_tests(text):
     fact = rf"(c\.(?:if|loop|in)-[^{STOP}]*(?:\.[^{STOP}]+)*\.(?:true|false))"
     text = re.sub(rf"\(not-(?:true|false)\s+{atom}\s+{fact}\)", r"\1", text)
     text = re.sub(rf"(?<![^{STOP}])not-(?:true|false)\s+{atom}\s+{fact}", r"\1", text)
+    text = re.sub(rf"ap not \(sym ([^{STOP}]+(?:\.[^{STOP}]+)*)\)\s+∙\s+(c\.if-not-[^{STOP}]*(?:\.[^{STOP}]+)*\.(?:true|false))", r"ap not (sym \1 ∙ \2)", text)
     text = re.sub(r"(c\.wrapping_\w+(?:-\w+)*\.ensures)(?![.\w])", r"\1.value", text)
     return text.replace(".type-inv.", ".type_inv.")
 
@@ -222,7 +223,7 @@ def turn(path, crate, key, entry):
             flat_decls.append((decl, None))
             continue
         header = re.sub(r"(tie\.[^\s)]+)(?: (?:invariant|decreases)-[^\s)]+)*", r"\1", decl[at])
-        param = re.match(r"module _ (\(\S+ : tie\.\S+\)) where", header)
+        param = re.match(r"module _ (\(\S+ : tie\.\S+\))(?: \([^()]*\))* where", header)
         if not param:
             problems.append(f"module: {decl[at]}")
             continue
@@ -309,9 +310,9 @@ def turn(path, crate, key, entry):
             return None
         v, extra, b = m.group(1), m.group(2).split(), m.group(3).strip()
         vs = {v: place, **module_places}
-        b = place_helpers(b, vs, helpers)
-        b = place_lets(b, vs, fn)
-        b = place_helpers(b, vs, helpers)
+        for _ in range(4):
+            b = place_helpers(b, vs, helpers)
+            b = place_lets(b, vs, fn)
         b = plain_tests(turn_calls(turn_paths(b, vs, fn, problems)))
         if extra:
             b = "λ " + " ".join(extra) + ". " + b
@@ -329,7 +330,7 @@ def turn(path, crate, key, entry):
         for h in helpers:
             if helpers[h] is None:
                 continue
-            b = re.sub(rf"\({re.escape(h)}\s+\(?c\)?\)", h, b)
+            b = re.sub(rf"\({re.escape(h)}\s+(?:c|\(c\))\)", h, b)
             b = re.sub(rf"(?<![^{STOP}]){re.escape(h)}\s+\(c\)", h, b)
             b = re.sub(rf"(?<![^{STOP}]){re.escape(h)}\s+c(?![^{STOP}]|\.)", h, b)
         return b
@@ -362,9 +363,9 @@ def turn(path, crate, key, entry):
             continue
         extra = [x for x in extra if not x.startswith("κ")]
         vs = {v: place}
-        b = place_helpers(b, vs, helpers)
-        b = place_lets(b, vs, fn)
-        b = place_helpers(b, vs, helpers)
+        for _ in range(4):
+            b = place_helpers(b, vs, helpers)
+            b = place_lets(b, vs, fn)
         h = [x for x in used(b) if not helpers[x][2].startswith("tie.")]
         b = plain_tests(turn_calls(turn_paths(b, vs, fn, problems)))
         lets = [helper_let(x) for x in h]
