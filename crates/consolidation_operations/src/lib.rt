@@ -76,9 +76,9 @@ pub fn consolidation_refusal(
     epoch: Epoch,
     valid: bool,
 ) -> u8
-    requires validators_bound { (scalars.validators ≤ identities_fit identities.now)
+    requires tables_hold { (scalars.validators ≤ identities_fit identities.now)
         × (scalars.validators ≤ validators_fit validators.now) }
-    requires by_index { (ds ps cs : List ℕ)
+    requires churn_is { (ds ps cs : List ℕ)
         → churn.0 ≡ get_consolidation_churn_limit (settings_of settings)
         (books_of scalars (tables identities.now validators.now ds ps cs)) }
     ensures { (ds ps cs : List ℕ)
@@ -122,14 +122,15 @@ fn consolidation_within_bound(
     source: ValidatorIndex,
     target: ValidatorIndex,
 ) -> Outcome
-    requires settings_value { sound_settings (settings_of settings) ≡ true }
+    requires settings_are_sound { sound_settings (settings_of settings) ≡ true }
     requires registry { Registry scalars validators.old }
     requires accounts { Accounts scalars }
-    requires churn_nonzero { (0 < churn.0)
+    requires churn_is_some { (0 < churn.0)
         × ((ids ds ps cs : List ℕ)
         → churn.0 ≡ get_consolidation_churn_limit (settings_of settings)
         (books_of scalars (tables ids validators.old ds ps cs))) }
-    requires source_lt_validators { (source.0 < scalars.validators) × (scalars.consolidations < consolidations_fit consolidations.old) }
+    requires known_source_and_room { (source.0 < scalars.validators)
+        × (scalars.consolidations < consolidations_fit consolidations.old) }
     ensures { (ids ds ps : List ℕ)
         → SoundBooks (settings_of settings)
         (books_of scalars (tables ids validators.old ds ps consolidations.old))
