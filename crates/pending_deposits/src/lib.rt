@@ -26,9 +26,9 @@ pub struct ProcessedDeposits {
 
 // Credits the first `count` deposits to the first n validators.
 fn credit_deposits(validators: &mut [u64], deposits: &[u64], n: usize, count: usize)
-    requires n_bound { (n ≤ validators_fit validators.old) × (count ≤ deposits_fit deposits.now) }
-    requires deposits_value { every (deposit_in n) (rows count (deposit_at deposits.now)) ≡ true }
-    requires by_index { (ids : List ℕ)
+    requires held { (n ≤ validators_fit validators.old) × (count ≤ deposits_fit deposits.now) }
+    requires known { every (deposit_in n) (rows count (deposit_at deposits.now)) ≡ true }
+    requires sums { (ids : List ℕ)
         → validator_balances (rows n (validator_at ids validators.old))
         + deposit_amounts (rows count (deposit_at deposits.now))
         ≤ BOUND }
@@ -51,9 +51,9 @@ fn process_deposits(
     m: usize,
     available: Gwei,
 ) -> ProcessedDeposits
-    requires n_bound { (n ≤ validators_fit validators.old) × (m ≤ deposits_fit deposits.now) }
-    requires deposits_value { every (deposit_in n) (rows m (deposit_at deposits.now)) ≡ true }
-    requires by_index { (ids : List ℕ)
+    requires held { (n ≤ validators_fit validators.old) × (m ≤ deposits_fit deposits.now) }
+    requires known { every (deposit_in n) (rows m (deposit_at deposits.now)) ≡ true }
+    requires sums { (ids : List ℕ)
         → validator_balances (rows n (validator_at ids validators.old))
         + deposit_amounts (rows m (deposit_at deposits.now))
         ≤ BOUND }
@@ -80,15 +80,15 @@ pub fn process_pending_balance_deposits(
     consolidations: &[u64],
     allowance: Gwei,
 ) -> Scalars
-    requires settings_value { sound_settings (settings_of settings) ≡ true }
-    requires consolidations_value { enough_room (settings_of settings)
+    requires settings_are_sound { sound_settings (settings_of settings) ≡ true }
+    requires room { enough_room (settings_of settings)
         (room_of (tables identities.now validators.old deposits.old partials.now consolidations.now))
         ≡ true }
-    requires consolidations_value_2 { sound_books (settings_of settings)
+    requires books_are_sound { sound_books (settings_of settings)
         (books_of scalars
         (tables identities.now validators.old deposits.old partials.now consolidations.now))
         ≡ true }
-    requires allowance_value { allowance.0 ≡ get_activation_exit_churn_limit (settings_of settings)
+    requires allowance_is_limit { allowance.0 ≡ get_activation_exit_churn_limit (settings_of settings)
         (books_of scalars
         (tables identities.now validators.old deposits.old partials.now consolidations.now)) }
     ensures { Stepped (rule.process_pending_balance_deposits (settings_of settings)) scalars
