@@ -135,10 +135,14 @@ fn is_text(bytes: &[u8]) -> bool {
     true
 }
 
+fn wide(b: u8) -> u64 {
+    b as u64
+}
+
 // In hexadecimal, 32 bytes a line.
 fn print_bytes(to: &impl Print, bytes: &[u8]) -> io::Result<()> {
     for (i, b) in bytes.iter().enumerate() {
-        print!(to; "{:02x}", *b)?;
+        print!(to; "{:02x}", wide(*b))?;
         if i % 32 == 31 {
             text(to, b"\n")?;
         }
