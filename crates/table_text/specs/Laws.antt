@@ -6,10 +6,10 @@ use Rattle.std.proofs.Common.{ap, ◌∙◌, add-one, zero-add, add-zero, arith,
 use Rattle.std.proofs.Math.Seq.{sets}
 use Rattle.std.proofs.lemmas.List.Edits.{sets-eq}
 use Rattle.std.proofs.lemmas.List.{set_comm}
-use Rattle.tables.specs.Rows.{length_rows, drop_rows_at, drop_rows_end}
+use Rattle.tables.specs.Rows.{drop_rows_at, drop_rows_end}
 use Rattle.table_text.specs.Lines.{Line, line, line_at, lines_of}
 use Rattle.table_text.specs.Text.{ascii, decimal, space, newline, field}
-use Rattle.table_text.specs.Text.{text_line, text_lines, table_text, refused_text, Printed}
+use Rattle.table_text.specs.Text.{text_line, text_lines, refused_text, Printed}
 
 -- ---- runs of stores
 
@@ -149,18 +149,6 @@ printed text o h e s = record {
   size = s;
   bytes = e ∙ sets-eq text o 0 (omega (arith, h)) ∙ ap (λ k. text ++ drop k o) (zero-add (length text));
 }
-
-pub table_printed : (ws : List ℕ) (n : ℕ) (o : List ℕ) {o₁ o₂ : List ℕ} → 23 + 32 * n ≤ length o
-    → o₁ ≡ sets o 0 (ascii "call code answer total\n") → o₂ ≡ sets o₁ 23 (text_lines 1 (lines_of ws n))
-    → Printed (table_text (lines_of ws n)) o o₂ (23 + 32 * n)
-unfolding table_text
-table_printed ws n o h p q =
-    let header = ascii "call code answer total\n" in
-    let lines = text_lines 1 (lines_of ws n) in
-    let long : length lines ≡ 32 * n =
-    omega (arith, length_text_lines 1 (lines_of ws n), length_rows n (line_at ws)) in
-    let size : 23 + 32 * n ≡ length (header ++ lines) = omega (arith, length-append header lines, long) in
-    printed (header ++ lines) o (omega (arith, size)) (stored_behind o 0 header lines 23 p q refl) size
 
 pub refused_printed : (n : ℕ) (o : List ℕ) {o₁ o₂ : List ℕ} → 11 ≤ length o
     → o₁ ≡ sets o 0 (ascii "refused ") → o₂ ≡ sets o₁ 8 (field 2 n newline) → Printed (refused_text n) o o₂ 11

@@ -1,5 +1,4 @@
 pub mod Lines
 pub mod Text
-pub mod Example
 pub mod Theorems
 pub mod Laws

@@ -1,6 +1,6 @@
 -- `table_text::put_table` meets its contract.
 use borrow.Author.Rules.{rules}
-use Rattle.table_text.specs.Laws.{table_printed}
+use Rattle.table_text.proofs.Laws.{table_printed}
 use Rattle.table_text.proofs.put_table.Goals as goal
 
 pub returns : goal.returns
