@@ -1,11 +1,12 @@
 -- Lists of withdrawals: sixteen records that are handed by value, of which the first n are written.
-use Rattle.std.specs.Prelude.{◌≡◌, refl, true, false, List, [], ◌∷◌, ◌++◌, map, ℕ, zero, suc, ◌+◌, ◌*◌, ◌≤◌, ◌<◌, length, get_or, eqb}
-use Rattle.std.proofs.Common.{sym, ap, ◌∙◌, subst, map-id, not-suc-le-zero, le_of_suc-le-suc, arith, length-append, lt-ltb, le-ltb, eq-eqb, eqb-true}
+use Rattle.std.specs.Prelude.{◌≡◌, refl, true, false, List, [], ◌∷◌, ◌++◌, map, ℕ, zero, suc}
+use Rattle.std.specs.Prelude.{◌+◌, ◌*◌, ◌≤◌, ◌<◌, length, get_or, eqb}
+use Rattle.std.proofs.Common.{sym, ap, ◌∙◌, not-suc-le-zero, le_of_suc-le-suc, arith, length-append}
+use Rattle.std.proofs.Common.{lt-ltb, le-ltb, eq-eqb, eqb-true}
 use mir.Val.{Val}
 use denote.Shadow.{shadow}
 use denote.Laws.{Is}
 use denote.Array.{Array, each}
-use borrow.Author.Rules.{length_unmapped}
 use Rattle.lists.specs.Base.{every}
 use Rattle.lists.specs.Laws.{both, join}
 use Rattle.tables.specs.Rows.{rows}
@@ -15,7 +16,7 @@ use Rattle.expected_withdrawals.specs.declared.Withdrawal.{Withdrawal}
 use Rattle.expected_withdrawals.specs.Expected.{plain_withdrawal, padded, handed_list}
 use Rattle.expected_withdrawals.specs.Handed.{length_handed, past}
 use Rattle.expected_withdrawals.specs.contracts.Withdrawal.{the_row}
-use Rattle.file_format.specs.Words.{word, is_byte}
+use Rattle.file_format.specs.Words.{word}
 use Rattle.file_format.specs.Fields as fields
 use Rattle.file_format.specs.Fields.{number, field, field_words, many}
 use Rattle.file_format.specs.Calls.{withdrawal, call}
@@ -38,10 +39,8 @@ unfolding withdrawal
 withdrawal_known w vs p =
     let q = p.1.1 in
     let address = q.1.1.0 in
-    let l : length w.address ≡ 20 = length_unmapped ℕ w.address 20 address.1.0.1 in
-    let b =
-    subst (λ xs. every is_byte xs ≡ true) (map-id w.address)
-    (array_bytes 20 (map (λ x. x) w.address) _ address) in
+    let l : length w.address ≡ 20 = address.1.0.1 in
+    let b = array_bytes 20 w.address _ address in
     join (number_fits w.index.0 q.0.1.1.0.1)
     (join (number_fits w.validator_index.0 q.1.0.1.1.0.1)
     (join (field_fits 20 w.address l b) (number_fits w.amount.0 q.1.1.1.0.1.1.0.1)))

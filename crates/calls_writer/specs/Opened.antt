@@ -1,9 +1,9 @@
 -- What is tested before the first store.
-use Rattle.std.specs.Prelude.{◌≡◌, refl, Bool, true, false, not, List, ℕ, ◌+◌, ◌-◌, ◌*◌, ◌/◌, ◌≤◌, ◌<◌, length, take, ltb}
+use Rattle.std.specs.Prelude.{◌≡◌, refl, Bool, true, false, not, List, ℕ, ◌+◌, ◌-◌, ◌*◌}
+use Rattle.std.specs.Prelude.{◌/◌, ◌≤◌, ◌<◌, length, take, ltb}
 use Rattle.std.proofs.Math.Path.{sym, ap}
 use Rattle.std.proofs.Common.{◌∙◌, arith, length-take-le, lt-ltb, le-ltb}
 use Rattle.std.proofs.Math.Option.{Option, some, none}
-use Rattle.std.proofs.lemmas.Bool.{not-true, not-false}
 use Rattle.lists.specs.Base.{when◌then◌else◌, every}
 use Rattle.lists.specs.Laws.{if_true, if_false}
 use Rattle.rules.specs.Calls.{Operation}
@@ -70,18 +70,18 @@ module _ (size w : ℕ) (out : List ℕ) where
     room = λ e. let z : ⊥ = omega arith in absurd z;
   }
 
-  pub opened_broken : (r : Bool) → size ≤ length out → r ≡ file_ok calls_format (take size out) → not r ≡ true
+  pub opened_broken : (r : Bool) → size ≤ length out → r ≡ file_ok calls_format (take size out) → r ≡ false
       → Opened size w out 60
   opened_broken r l e g = record {
-    number = λ o f. broken_number o size out l (sym e ∙ not-true r g);
+    number = λ o f. broken_number o size out l (sym e ∙ g);
     room = λ e. let z : ⊥ = omega arith in absurd z;
   }
 
   module _ (r : Bool) (n : ℕ) (b : every is_byte out ≡ true) (l : size ≤ length out)
-      (e : r ≡ file_ok calls_format (take size out)) (g : not r ≡ false)
+      (e : r ≡ file_ok calls_format (take size out)) (g : r ≡ true)
       (c : n ≡ count_at (words (take size out)) 1) where
     there : Holds (held size out) size out
-    there = holds out size b l (sym e ∙ not-false r g)
+    there = holds out size b l (sym e ∙ g)
 
     counted : n ≡ length (held size out)
     counted = c ∙ count_held (held size out) size out there

@@ -1,0 +1,35 @@
+use borrow.Author.Rules.{rules}
+use Rattle.rules.specs.Calls.{reward}
+use Rattle.calls_writer.specs.Fits.{Fits, reward_fits, reward_put}
+use Rattle.calls_writer.specs.Opened.{open_place, open_room, added_refused}
+use Rattle.calls_writer.specs.Closed.{call_ready, added_done}
+use Rattle.calls_writer.proofs.add_reward.Goals as goal
+
+pub returns-then-number-ne-DONE : goal.returns-then-number-ne-DONE
+returns-then-number-ne-DONE c =
+    let a = c.args in
+    let fine : Fits (reward a.i.0 a.amount.0) 7 =
+    search (reward_fits, rules) in
+    added_refused _ _ _ _ _ c.open-number.ensures fine c.if-number-ne-DONE.true
+
+pub overflow_sub-k : goal.overflow_sub-k
+overflow_sub-k c = search (open_place, rules)
+
+pub put_amount-requires : goal.put_amount-requires
+put_amount-requires c = search (open_room, rules)
+
+pub close-requires : goal.close-requires
+close-requires c =
+    let a = c.args in
+    let fine : Fits (reward a.i.0 a.amount.0) 7 =
+    search (reward_fits, rules) in
+    call_ready _ _ _ _ _ _ c.open-number.ensures c.if-number-ne-DONE.false fine
+    (reward_put _ _ _ _ _ c.put_amount.ensures)
+
+pub returns : goal.returns
+returns c =
+    let a = c.args in
+    let fine : Fits (reward a.i.0 a.amount.0) 7 =
+    search (reward_fits, rules) in
+    added_done _ _ _ _ _ _ c.open-number.ensures c.if-number-ne-DONE.false fine
+    (reward_put _ _ _ _ _ c.put_amount.ensures) _ _ _ c.close.ensures
