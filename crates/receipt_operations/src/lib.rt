@@ -70,10 +70,10 @@ fn deposit_to_known(
     sums: bool,
 ) -> Outcome
     requires receipt_ready { ReceiptReady (settings_of settings) scalars identities.old validators.old deposits.old }
-    requires i_lt_validators { (i.0 < scalars.validators)
+    requires known_validator { (i.0 < scalars.validators)
         × (plain_validator v ≡ validator_at identities.old validators.old i.0)
         × (switch ≡ true → has_eth1_withdrawal_credential (plain_validator v) ≡ true) }
-    requires by_index { (ids ps cs : List ℕ)
+    requires sums_is { (ids ps cs : List ℕ)
         → sums
         ≡ leb (held (books_of scalars (tables ids validators.old deposits.old ps cs)) + amount.0) rule.BOUND }
     ensures { (ps cs : List ℕ)
@@ -140,7 +140,7 @@ fn add_validator_to_registry(
     sums: bool,
 ) -> Outcome
     requires receipt_ready { ReceiptReady (settings_of settings) scalars identities.old validators.old deposits.old }
-    requires by_index { (ids ps cs : List ℕ)
+    requires sums_is { (ids ps cs : List ℕ)
         → sums
         ≡ leb (held (books_of scalars (tables ids validators.old deposits.old ps cs)) + amount.0) rule.BOUND }
     ensures { (ps cs : List ℕ)
@@ -194,7 +194,7 @@ fn apply_deposit(
     sums: bool,
 ) -> Outcome
     requires receipt_ready { ReceiptReady (settings_of settings) scalars identities.old validators.old deposits.old }
-    requires by_index { (ids ps cs : List ℕ)
+    requires sums_is { (ids ps cs : List ℕ)
         → sums
         ≡ leb (held (books_of scalars (tables ids validators.old deposits.old ps cs)) + amount.0) rule.BOUND }
     ensures { (ps cs : List ℕ)
@@ -250,12 +250,12 @@ pub fn process_deposit_receipt(
     valid: bool,
     sums: bool,
 ) -> Outcome
-    requires consolidations_value { handed_refusal (settings_of settings)
+    requires accepted { handed_refusal (settings_of settings)
         (books_of scalars
         (tables identities.old validators.old deposits.old partials.now consolidations.now))
         (room_of (tables identities.old validators.old deposits.old partials.now consolidations.now))
         ≡ 0 }
-    requires sums_value { sums
+    requires sums_is { sums
         ≡ leb (held (books_of scalars
         (tables identities.old validators.old deposits.old partials.now consolidations.now))
         + amount.0) rule.BOUND }

@@ -23,7 +23,11 @@ assign_consolidation_epoch-a-requires c =
 
 pub withdrawable_epoch-withdrawable-requires : goal.withdrawable_epoch-withdrawable-requires
 withdrawable_epoch-withdrawable-requires c =
-    omega (arith, c.assign_consolidation_epoch-a.ensures.far_off, (settings_sound _ c.requires.settings_are_sound).delay)
+    omega (
+      arith,
+      c.assign_consolidation_epoch-a.ensures.far_off,
+      (settings_sound _ c.requires.settings_are_sound).delay,
+    )
 
 pub returns-then-withdrawable-gt-BOUND : goal.returns-then-withdrawable-gt-BOUND
 returns-then-withdrawable-gt-BOUND c =

@@ -49,7 +49,8 @@ returns-then-not-has_execution_withdrawal_credential c =
     (passes _ _ (agrees _ _ c.if-source-ne-FAR_FUTURE_EPOCH.false)
     (passes _ _ (agrees _ _ c.if-target-ne-FAR_FUTURE_EPOCH.false)
     (passes _ _ (le-ltb _ _ c.if-current_epoch-epoch.false)
-    (fails _ _ (ap not (sym c.has_execution_withdrawal_credential.ensures ∙ c.if-not-has_execution_withdrawal_credential.true))))))))
+    (fails _ _ (ap not
+    (sym c.has_execution_withdrawal_credential.ensures ∙ c.if-not-has_execution_withdrawal_credential.true))))))))
 
 pub returns-then-not-has_execution_withdrawal_credential-2 : goal.returns-then-not-has_execution_withdrawal_credential-2
 unfolding pair_refusal
@@ -59,7 +60,8 @@ returns-then-not-has_execution_withdrawal_credential-2 c =
     (passes _ _ (agrees _ _ c.if-source-ne-FAR_FUTURE_EPOCH.false)
     (passes _ _ (agrees _ _ c.if-target-ne-FAR_FUTURE_EPOCH.false)
     (passes _ _ (le-ltb _ _ c.if-current_epoch-epoch.false)
-    (passes _ _ (ap not (sym c.has_execution_withdrawal_credential.ensures ∙ c.if-not-has_execution_withdrawal_credential.false))
+    (passes _ _ (ap not
+    (sym c.has_execution_withdrawal_credential.ensures ∙ c.if-not-has_execution_withdrawal_credential.false))
     (fails _ _ (ap not
     (sym c.has_execution_withdrawal_credential-2.ensures ∙ c.if-not-has_execution_withdrawal_credential-2.true)))))))))
 
@@ -71,7 +73,8 @@ returns-then-not-same_address c =
     (passes _ _ (agrees _ _ c.if-source-ne-FAR_FUTURE_EPOCH.false)
     (passes _ _ (agrees _ _ c.if-target-ne-FAR_FUTURE_EPOCH.false)
     (passes _ _ (le-ltb _ _ c.if-current_epoch-epoch.false)
-    (passes _ _ (ap not (sym c.has_execution_withdrawal_credential.ensures ∙ c.if-not-has_execution_withdrawal_credential.false))
+    (passes _ _ (ap not
+    (sym c.has_execution_withdrawal_credential.ensures ∙ c.if-not-has_execution_withdrawal_credential.false))
     (passes _ _ (ap not
     (sym c.has_execution_withdrawal_credential-2.ensures ∙ c.if-not-has_execution_withdrawal_credential-2.false))
     (fails _ _ (ap not (sym (c.same_address.ensures
@@ -86,7 +89,8 @@ returns-then-not-valid c =
     (passes _ _ (agrees _ _ c.if-source-ne-FAR_FUTURE_EPOCH.false)
     (passes _ _ (agrees _ _ c.if-target-ne-FAR_FUTURE_EPOCH.false)
     (passes _ _ (le-ltb _ _ c.if-current_epoch-epoch.false)
-    (passes _ _ (ap not (sym c.has_execution_withdrawal_credential.ensures ∙ c.if-not-has_execution_withdrawal_credential.false))
+    (passes _ _ (ap not
+    (sym c.has_execution_withdrawal_credential.ensures ∙ c.if-not-has_execution_withdrawal_credential.false))
     (passes _ _ (ap not
     (sym c.has_execution_withdrawal_credential-2.ensures ∙ c.if-not-has_execution_withdrawal_credential-2.false))
     (passes _ _ (ap not (sym (c.same_address.ensures
@@ -102,7 +106,8 @@ returns c =
     (passes _ _ (agrees _ _ c.if-source-ne-FAR_FUTURE_EPOCH.false)
     (passes _ _ (agrees _ _ c.if-target-ne-FAR_FUTURE_EPOCH.false)
     (passes _ _ (le-ltb _ _ c.if-current_epoch-epoch.false)
-    (passes _ _ (ap not (sym c.has_execution_withdrawal_credential.ensures ∙ c.if-not-has_execution_withdrawal_credential.false))
+    (passes _ _ (ap not
+    (sym c.has_execution_withdrawal_credential.ensures ∙ c.if-not-has_execution_withdrawal_credential.false))
     (passes _ _ (ap not
     (sym c.has_execution_withdrawal_credential-2.ensures ∙ c.if-not-has_execution_withdrawal_credential-2.false))
     (passes _ _ (ap not (sym (c.same_address.ensures

@@ -1,0 +1,106 @@
+use mathlib.Core.Path.{sym, ap, ◌∙◌}
+use Prim.Native.Nat.{◌+◌}
+use native.Mathlib.Omega.{arith}
+use lib.Dec.{leb}
+use Rattle.primitives.specs.Settings.{settings_of}
+use Rattle.primitives.specs.declared.Scalars.{Scalars}
+use Rattle.records.specs.Plain.{plain_validator}
+use Rattle.records.specs.Books.{tables}
+use Rattle.call_answers.specs.Answers.{judged_done, judged_refused}
+use Rattle.receipt_operations.specs.Receipts.{known_number, known_stepped, switch_stepped}
+use Rattle.receipt_operations.specs.Receipts.{few_entries, switch_room}
+use Rattle.receipt_operations.proofs.Sizes.{sums_known, limit_kept}
+use Rattle.receipt_operations.proofs.deposit_to_known.Goals as goal
+
+pub overflow_add-within-2 : goal.overflow_add-within-2
+overflow_add-within-2 c =
+    let a = c.args in
+    let ready = c.requires.receipt_ready in
+    omega (
+      arith,
+      c.queued_by_switch-more.ensures,
+      few_entries (settings_of a.settings).min_activation_balance a.v.balance.0 a.switch,
+      ready.queued,
+      ready.most_queued,
+    )
+
+pub returns-then-number-ne-DONE : goal.returns-then-number-ne-DONE
+returns-then-number-ne-DONE c =
+    λ ps cs k.
+    let a = c.args in
+    let t = tables a.identities.now a.validators.now a.deposits.now ps cs in
+    let known = c.requires.known_validator in
+    judged_refused
+    (sums_known
+    (leb (a.scalars.deposits + 1 + c.queued_by_switch-more.result) a.settings.pending_balance_deposits_limit)
+    c.size_number-number.ensures (c.requires.sums_is a.identities.now ps cs)
+    ∙ known_number (settings_of a.settings) a.scalars t a.i.0 known.0 (plain_validator a.v) known.1 k a.amount.0
+    c.queued_by_switch-more.result a.switch known.2 c.queued_by_switch-more.ensures)
+    c.if-number-ne-DONE.true
+
+pub push_deposit-requires : goal.push_deposit-requires
+push_deposit-requires c =
+    let a = c.args in
+    let fits =
+    limit_kept (a.scalars.deposits + 1 + c.queued_by_switch-more.result) a.settings.pending_balance_deposits_limit
+    a.sums c.size_number-number.ensures c.if-number-ne-DONE.false in
+    omega (arith, fits, c.requires.receipt_ready.deposits)
+
+pub returns-then-not-switch : goal.returns-then-not-switch
+returns-then-not-switch c =
+    λ ps cs k.
+    let a = c.args in
+    let t = tables a.identities.now a.validators.now a.deposits.now ps cs in
+    let known = c.requires.known_validator in
+    judged_done
+    (sym c.if-number-ne-DONE.false
+    ∙ sums_known
+    (leb (a.scalars.deposits + 1 + c.queued_by_switch-more.result) a.settings.pending_balance_deposits_limit)
+    c.size_number-number.ensures (c.requires.sums_is a.identities.now ps cs)
+    ∙ known_number (settings_of a.settings) a.scalars t a.i.0 known.0 (plain_validator a.v) known.1 k a.amount.0
+    c.queued_by_switch-more.result a.switch known.2 c.queued_by_switch-more.ensures)
+    (known_stepped (settings_of a.settings) a.scalars a.i.0 a.amount.0 a.identities.now
+    a.validators.now a.deposits.now _ c.push_deposit.ensures ps cs a.switch
+    c.if-not-switch.true c.with_deposits-queued.ensures)
+
+pub switch_to_compounding_validator-switched-requires : goal.switch_to_compounding_validator-switched-requires
+switch_to_compounding_validator-switched-requires c =
+    let a = c.args in
+    let known = c.requires.known_validator in
+    let ready = c.requires.receipt_ready in
+    let fits =
+    limit_kept (a.scalars.deposits + 1 + c.queued_by_switch-more.result) a.settings.pending_balance_deposits_limit
+    a.sums c.size_number-number.ensures c.if-number-ne-DONE.false in
+    let grown = c.with_deposits-queued.ensures in
+    let same = ap (λ (x : Scalars). x.validators) grown in
+    record {
+      i_lt_validators = (
+        omega (arith, same, known.0),
+        omega (arith, same, ready.registry, ready.identities),
+        omega (arith, same, ready.registry, ready.validators),
+      );
+      by_index =
+          switch_room (settings_of a.settings) a.scalars c.with_deposits-queued.result a.i.0
+          known.0 (plain_validator a.v) a.identities.now a.validators.now a.deposits.now _
+          known.1 (known.2 c.if-not-switch.false) c.queued_by_switch-more.result a.switch c.if-not-switch.false
+          c.queued_by_switch-more.ensures (omega (arith, fits, ready.deposits)) c.push_deposit.auto.deposits grown;
+    }
+
+pub returns : goal.returns
+returns c =
+    λ ps cs k.
+    let a = c.args in
+    let t = tables a.identities.now a.validators.now a.deposits.now ps cs in
+    let known = c.requires.known_validator in
+    judged_done
+    (sym c.if-number-ne-DONE.false
+    ∙ sums_known
+    (leb (a.scalars.deposits + 1 + c.queued_by_switch-more.result) a.settings.pending_balance_deposits_limit)
+    c.size_number-number.ensures (c.requires.sums_is a.identities.now ps cs)
+    ∙ known_number (settings_of a.settings) a.scalars t a.i.0 known.0 (plain_validator a.v) known.1 k a.amount.0
+    c.queued_by_switch-more.result a.switch known.2 c.queued_by_switch-more.ensures)
+    (switch_stepped (settings_of a.settings) a.scalars a.i.0 a.amount.0 a.identities.now
+    a.validators.now a.deposits.now _ c.push_deposit.ensures ps cs a.switch
+    c.if-not-switch.false _ c.with_deposits-queued.ensures
+    (c.switch_to_compounding_validator-switched.ensures.by_index_3 ps cs)
+    (c.switch_to_compounding_validator-switched.ensures.by_index_2 ps cs))
