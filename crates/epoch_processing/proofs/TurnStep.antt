@@ -23,9 +23,10 @@ use Rattle.result_sizes.specs.Steady.{Steady, deposit_steady, consolidation_stea
 use Rattle.result_sizes.specs.Epoch.{deposits_size, consolidations_size}
 use Rattle.primitives.specs.declared.Scalars.{Scalars}
 use Rattle.primitives.specs.Scalars.{with_epoch, with_consolidations}
-use Rattle.records.specs.Books.{Tables, Stepped, Beyond, AtMost, books_of, beyond_then}
-use Rattle.records.specs.Reading.{EnoughRoom, validators_count, deposits_count, partials_count, epoch_read}
+use Rattle.records.specs.Books.{Tables, Stepped, Beyond, AtMost, books_of, room_of, beyond_then}
+use Rattle.records.specs.Reading.{EnoughRoom, room, room_so, validators_count, deposits_count, partials_count, epoch_read}
 use Rattle.records.specs.Fixed.{SameSizes}
+use Rattle.epoch_processing.specs.Ready.{UpdatesReady, updates_ready}
 
 -- ---- accepted books stay accepted
 
@@ -171,3 +172,39 @@ module _ (S : Settings) (s r q p : Scalars) (t u w x : Tables)
       consolidations = steps_beyond.consolidations;
     };
   }
+
+-- ---- what the second and the third step ask, from what the steps before them promise
+
+module _ (S : Settings) (s : Scalars) (t : Tables) (settings : sound_settings S ≡ true)
+    (space : enough_room S (room_of t) ≡ true) (books : sound_books S (books_of s t) ≡ true)
+    (fits : length (turn S (books_of s t)).pending_balance_deposits ≤ S.pending_balance_deposits_limit)
+    (r : Scalars) (u : Tables) (f : Stepped (process_pending_balance_deposits S) s t u r) (kept : SameSizes u t) where
+  pub credited_room : enough_room S (room_of u) ≡ true
+  credited_room = room_so S u (room_kept S t u kept (room S t space))
+
+  pub credited_sound : sound_books S (books_of r u) ≡ true
+  credited_sound = rw f.books (deposits_sound S (books_of s t) (room_of t) settings space books)
+
+  pub credited_fits :
+      length (process_pending_consolidations S (books_of r u)).pending_balance_deposits
+      ≤ S.pending_balance_deposits_limit
+  credited_fits =
+      let b = books_of s t in
+      omega (
+        arith,
+        fits,
+        ap length (turn_queue S b),
+        ap (λ (e : Books). length (process_pending_consolidations S e).pending_balance_deposits) f.books,
+      )
+
+  module _ (q : Scalars) (w : Tables) (g : Stepped (process_pending_consolidations S) r u w q)
+      (sizes : SameSizes w u) where
+    pub consolidated_sound : sound_books S (books_of q w) ≡ true
+    consolidated_sound =
+        rw g.books
+        (consolidations_sound S (books_of r u) (room_of u) settings credited_room credited_sound credited_fits)
+
+    pub consolidated_ready : UpdatesReady S q w.identities w.validators
+    consolidated_ready =
+        updates_ready S q w (books_sound S _ consolidated_sound)
+        (room_kept S u w sizes (room S u credited_room))

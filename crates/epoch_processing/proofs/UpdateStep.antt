@@ -1,6 +1,6 @@
 -- One effective balance from what the code stores, the loop validator by validator, and the step.
 use mathlib.Core.Path.{◌≡◌, refl, sym, ap, ◌∙◌}
-use mathlib.Core.Bool.{Bool, true, false, not, ◌||◌}
+use mathlib.Core.Bool.{Bool, true, false, ◌||◌}
 use mathlib.Core.List.{List, [], ◌∷◌, map}
 use Prim.Native.Nat.{ℕ, zero, suc, ◌+◌, ◌-◌, ◌*◌, ◌/◌, ◌%◌, ◌<◌, ◌≤◌, ◌^◌, min}
 use native.Mathlib.Nat.{div-le_self, mul-le-mul, le_of_suc-le-suc}
@@ -24,10 +24,6 @@ use Rattle.records.specs.Stores.{ValidatorAdjusted}
 use Rattle.epoch_processing.specs.Updates.{downward_threshold, upward_threshold, Updated}
 
 -- ---- one validator
-
-pub not_true : (t : Bool) → not t ≡ true → t ≡ false
-not_true true e = sym e
-not_true false e = refl
 
 -- the two tests of the band in the code's order
 pub below_band : (a b : ℕ) (t : Bool) → a < b → true ≡ (ltb a b || t)

@@ -31,11 +31,11 @@ fn update_effective_balance(
     downward: Gwei,
     upward: Gwei,
 )
-    requires i_bound { (i.0 < identities_fit identities.now) × (i.0 < validators_fit validators.old) }
-    requires downward_value { (downward.0 ≡ downward_threshold (settings_of settings))
+    requires held { (i.0 < identities_fit identities.now) × (i.0 < validators_fit validators.old) }
+    requires thresholds { (downward.0 ≡ downward_threshold (settings_of settings))
         × (upward.0 ≡ upward_threshold (settings_of settings))
         × (0 < settings.effective_balance_increment.0) }
-    requires downward_bound { (balance_at validators.old i.0 + downward.0 < 2 ^ 64)
+    requires sums_fit { (balance_at validators.old i.0 + downward.0 < 2 ^ 64)
         × (effective_balance_at validators.old i.0 + upward.0 < 2 ^ 64) }
     ensures { Updated (settings_of settings) i.0 identities.now
         validators.old validators.new }
@@ -57,13 +57,13 @@ pub fn process_effective_balance_updates(
     identities: &[u8],
     validators: &mut [u64],
 ) -> Scalars
-    requires settings_value { sound_settings (settings_of settings) ≡ true }
+    requires settings_are_sound { sound_settings (settings_of settings) ≡ true }
     requires updates_ready { UpdatesReady (settings_of settings) scalars identities.now validators.old }
-    ensures by_index { (ds ps cs : List ℕ)
+    ensures stepped { (ds ps cs : List ℕ)
         → Stepped (rule.process_effective_balance_updates (settings_of settings)) scalars
         (tables identities.now validators.old ds ps cs)
         (tables identities.now validators.new ds ps cs) result }
-    ensures value { result ≡ scalars }
+    ensures scalars_kept { result ≡ scalars }
 {
     let n = scalars.validators;
     let increment = settings.effective_balance_increment.0 / settings.hysteresis_quotient;

@@ -27,19 +27,19 @@ pub fn turn(
     consolidations: &mut [u64],
     allowance: Gwei,
 ) -> Scalars
-    requires settings_value { sound_settings (settings_of settings) ≡ true }
-    requires consolidations_value { enough_room (settings_of settings)
+    requires settings_are_sound { sound_settings (settings_of settings) ≡ true }
+    requires room { enough_room (settings_of settings)
         (room_of (tables identities.old validators.old deposits.old partials.now consolidations.old))
         ≡ true }
-    requires consolidations_value_2 { sound_books (settings_of settings)
+    requires books_are_sound { sound_books (settings_of settings)
         (books_of scalars
         (tables identities.old validators.old deposits.old partials.now consolidations.old))
         ≡ true }
-    requires allowance_value { allowance.0 ≡ get_activation_exit_churn_limit (settings_of settings)
+    requires allowance_is_limit { allowance.0 ≡ get_activation_exit_churn_limit (settings_of settings)
         (books_of scalars
         (tables identities.old validators.old deposits.old partials.now consolidations.old)) }
-    requires epoch_bound { scalars.epoch.0 + 1 ≤ BOUND }
-    requires consolidations_len_bound { length (rule.turn (settings_of settings)
+    requires epoch_fits { scalars.epoch.0 + 1 ≤ BOUND }
+    requires queue_fits { length (rule.turn (settings_of settings)
         (books_of scalars
         (tables identities.old validators.old deposits.old partials.now consolidations.old))
         ).pending_balance_deposits
