@@ -41,7 +41,7 @@ fn may_request(
     v: Validator,
     source_address: [u8; 20],
 ) -> bool
-    requires settings_value { sound_settings (settings_of settings) ≡ true }
+    requires settings_are_sound { sound_settings (settings_of settings) ≡ true }
     requires current_epoch_bound { current_epoch.0 ≤ rule.BOUND }
     ensures { result ≡ may_request (settings_of settings) current_epoch.0 (plain_validator v) source_address }
 {
@@ -63,8 +63,8 @@ fn may_request(
 
 // Whether a compounding validator has a balance above the minimum and what its waiting withdrawals owe it.
 fn has_excess(settings: Settings, v: Validator, pending: Gwei) -> bool
-    requires settings_value { sound_settings (settings_of settings) ≡ true }
-    requires pending_le_bound { pending.0 ≤ rule.BOUND }
+    requires settings_are_sound { sound_settings (settings_of settings) ≡ true }
+    requires pending_bound { pending.0 ≤ rule.BOUND }
     ensures { result ≡ has_excess (settings_of settings) (plain_validator v) pending.0 }
 {
     let least = settings.min_activation_balance;
@@ -113,11 +113,11 @@ fn queue_partial_withdrawal(
     i: ValidatorIndex,
     amount: Gwei,
 ) -> Outcome
-    requires settings_value { sound_settings (settings_of settings) ≡ true }
+    requires settings_are_sound { sound_settings (settings_of settings) ≡ true }
     requires registry { Registry scalars validators.now }
     requires accounts { Accounts scalars }
     requires partials { Partials scalars partials.old }
-    requires amount_le_bound { (amount.0 ≤ rule.BOUND) × (scalars.partials < partials_fit partials.old) }
+    requires amount_and_room { (amount.0 ≤ rule.BOUND) × (scalars.partials < partials_fit partials.old) }
     ensures { (ids ds cs : List ℕ)
         → SoundBooks (settings_of settings)
         (books_of scalars (tables ids validators.now ds partials.old cs))
@@ -163,11 +163,11 @@ fn request_partial_withdrawal(
     v: Validator,
     amount: Gwei,
 ) -> Outcome
-    requires settings_value { sound_settings (settings_of settings) ≡ true }
+    requires settings_are_sound { sound_settings (settings_of settings) ≡ true }
     requires registry { Registry scalars validators.now }
     requires accounts { Accounts scalars }
     requires partials { Partials scalars partials.old }
-    requires i_lt_validators { (i.0 < scalars.validators)
+    requires known_validator { (i.0 < scalars.validators)
         × (v.balance.0 ≤ rule.BOUND)
         × (scalars.partials < partials_fit partials.old) }
     ensures { (ids ds cs : List ℕ)
@@ -200,11 +200,11 @@ fn request_full_exit(
     partials: &[u64],
     i: ValidatorIndex,
 ) -> Outcome
-    requires settings_value { sound_settings (settings_of settings) ≡ true }
+    requires settings_are_sound { sound_settings (settings_of settings) ≡ true }
     requires registry { Registry scalars validators.old }
     requires accounts { Accounts scalars }
     requires partials { Partials scalars partials.now }
-    requires i_lt_validators { (i.0 < scalars.validators) × (exit_epoch_at validators.old i.0 ≡ rule.FAR) }
+    requires not_begun { (i.0 < scalars.validators) × (exit_epoch_at validators.old i.0 ≡ rule.FAR) }
     ensures { (ids ds cs : List ℕ)
         → SoundBooks (settings_of settings)
         (books_of scalars (tables ids validators.old ds partials.now cs))

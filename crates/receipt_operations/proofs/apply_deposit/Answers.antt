@@ -43,7 +43,8 @@ returns-in-At c =
     let t = tables a.identities.now a.validators.now a.deposits.now ps cs in
     let known = c.in-At.ensures a.validators.now a.deposits.now ps cs in
     judged_as (apply_deposit S a.public_key a.withdrawal_credentials a.amount.0 a.valid)
-    (ap (λ (switch : Bool). known_deposit S c.in-At.i.0 a.amount.0 switch (books_of a.scalars t)) c.switches-switch.ensures
+    (ap (λ (switch : Bool). known_deposit S c.in-At.i.0 a.amount.0 switch (books_of a.scalars t))
+    c.switches-switch.ensures
     ∙ apply_known S a.scalars t a.public_key a.withdrawal_credentials a.amount.0 a.valid c.in-At.i.0 known.0
     (plain_validator c.validator_at-v.result) known.1 c.validator_at-v.ensures)
     (c.deposit_to_known.ensures ps cs k)

@@ -25,10 +25,9 @@ returns-then-not-has_execution_withdrawal_credential c =
 pub returns-then-not-same_address : goal.returns-then-not-same_address
 unfolding may_request
 returns-then-not-same_address c =
-    let same : let a = c.args in c.same_address.result ≡ same_bytes (withdrawal_address (plain_validator a.v)) a.source_address = let a = c.args in
-    c.same_address.ensures
-    ∙ ap (λ x. same_bytes x a.source_address) c.withdrawal_address-address.ensures in
     let a = c.args in
+    let same =
+    c.same_address.ensures ∙ ap (λ x. same_bytes x a.source_address) c.withdrawal_address-address.ensures in
     fails _ _
     (ap not
     (and_false (has_execution_withdrawal_credential (plain_validator a.v)) _
@@ -37,10 +36,11 @@ returns-then-not-same_address c =
 pub returns-then-not-is_active_validator : goal.returns-then-not-is_active_validator
 unfolding may_request
 returns-then-not-is_active_validator c =
-    let same : let a = c.args in c.same_address.result ≡ same_bytes (withdrawal_address (plain_validator a.v)) a.source_address = let a = c.args in
-    c.same_address.ensures
-    ∙ ap (λ x. same_bytes x a.source_address) c.withdrawal_address-address.ensures in
-    let own : let a = c.args in not (has_execution_withdrawal_credential (plain_validator a.v) && same_bytes (withdrawal_address (plain_validator a.v)) a.source_address) ≡ false = ap not
+    let a = c.args in
+    let same =
+    c.same_address.ensures ∙ ap (λ x. same_bytes x a.source_address) c.withdrawal_address-address.ensures in
+    let own =
+    ap not
     (join
     (sym c.has_execution_withdrawal_credential.ensures ∙ c.if-not-has_execution_withdrawal_credential.false)
     (sym same ∙ c.if-not-same_address.false)) in
@@ -50,10 +50,11 @@ returns-then-not-is_active_validator c =
 pub returns-then-v-ne-FAR_FUTURE_EPOCH : goal.returns-then-v-ne-FAR_FUTURE_EPOCH
 unfolding may_request
 returns-then-v-ne-FAR_FUTURE_EPOCH c =
-    let same : let a = c.args in c.same_address.result ≡ same_bytes (withdrawal_address (plain_validator a.v)) a.source_address = let a = c.args in
-    c.same_address.ensures
-    ∙ ap (λ x. same_bytes x a.source_address) c.withdrawal_address-address.ensures in
-    let own : let a = c.args in not (has_execution_withdrawal_credential (plain_validator a.v) && same_bytes (withdrawal_address (plain_validator a.v)) a.source_address) ≡ false = ap not
+    let a = c.args in
+    let same =
+    c.same_address.ensures ∙ ap (λ x. same_bytes x a.source_address) c.withdrawal_address-address.ensures in
+    let own =
+    ap not
     (join
     (sym c.has_execution_withdrawal_credential.ensures ∙ c.if-not-has_execution_withdrawal_credential.false)
     (sym same ∙ c.if-not-same_address.false)) in
@@ -70,19 +71,19 @@ overflow_add-result c =
     leb-true v.activation_epoch.0 epoch
     (both (leb v.activation_epoch.0 epoch) (ltb epoch v.exit_epoch.0)
     (sym c.is_active_validator.ensures ∙ c.if-not-is_active_validator.false)).0 in
-    omega (arith, begun, c.requires.current_epoch_bound, (settings_sound _ c.requires.settings_value).period)
+    omega (arith, begun, c.requires.current_epoch_bound, (settings_sound _ c.requires.settings_are_sound).period)
 
 pub returns : goal.returns
 unfolding may_request
 returns c =
-    let same : let a = c.args in c.same_address.result ≡ same_bytes (withdrawal_address (plain_validator a.v)) a.source_address = let a = c.args in
-    c.same_address.ensures
-    ∙ ap (λ x. same_bytes x a.source_address) c.withdrawal_address-address.ensures in
-    let own : let a = c.args in not (has_execution_withdrawal_credential (plain_validator a.v) && same_bytes (withdrawal_address (plain_validator a.v)) a.source_address) ≡ false = ap not
+    let a = c.args in
+    let same =
+    c.same_address.ensures ∙ ap (λ x. same_bytes x a.source_address) c.withdrawal_address-address.ensures in
+    let own =
+    ap not
     (join
     (sym c.has_execution_withdrawal_credential.ensures ∙ c.if-not-has_execution_withdrawal_credential.false)
     (sym same ∙ c.if-not-same_address.false)) in
-    let a = c.args in
     passes _ _ own
     (passes _ _ (ap not (sym c.is_active_validator.ensures ∙ c.if-not-is_active_validator.false))
     (passes _ _ (agrees _ _ c.if-v-ne-FAR_FUTURE_EPOCH.false)

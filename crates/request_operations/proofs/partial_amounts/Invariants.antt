@@ -13,7 +13,8 @@ amount_of p = p.amount
 abbrev pub invariant-loop-k : goal.invariant-loop-k
 invariant-loop-k l =
     (l.k ≤ l.n)
-    × (l.sum + total amount_of (drop l.k (rows l.n (partial_at l.partials))) ≡ total amount_of (rows l.n (partial_at l.partials)))
+    × (l.sum + total amount_of (drop l.k (rows l.n (partial_at l.partials)))
+    ≡ total amount_of (rows l.n (partial_at l.partials)))
 
 abbrev pub decreases-loop-k : goal.decreases-loop-k
 decreases-loop-k l = l.n - l.k

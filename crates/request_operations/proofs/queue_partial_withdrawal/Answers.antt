@@ -1,64 +1,63 @@
-use mathlib.Core.Path.{◌≡◌, sym, ap, ◌∙◌}
+use mathlib.Core.Path.{sym, ap, ◌∙◌}
 use mathlib.Core.Bool.{true}
 use Prim.Native.Nat.{ℕ, ◌+◌, ◌-◌}
 use native.Mathlib.Omega.{arith}
 use lib.Dec.{leb}
 use Rattle.rules.specs.Types.{BOUND}
-use Rattle.rules.specs.Calls.{size_refusal}
 use Rattle.rule_laws.specs.Accepted.{settings_sound}
 use Rattle.result_sizes.specs.Size.{size_number}
 use Rattle.primitives.specs.Settings.{settings_of}
 use Rattle.primitives.specs.declared.Scalars.{Scalars}
 use Rattle.primitives.specs.Scalars as scalars
-use Rattle.records.specs.Books.{Tables, tables, books_of}
+use Rattle.records.specs.Books.{tables}
 use Rattle.helpers.specs.Assigned.{plain_assignment}
 use Rattle.call_answers.specs.Answers.{judged_done, judged_refused}
-use Rattle.request_operations.specs.Requests.{queue_partial_withdrawal, partial_stepped, request_number}
+use Rattle.request_operations.specs.Requests.{partial_stepped, request_number}
 use Rattle.request_operations.proofs.queue_partial_withdrawal.Goals as goal
 
 pub withdrawable_epoch-withdrawable-requires : goal.withdrawable_epoch-withdrawable-requires
 withdrawable_epoch-withdrawable-requires c =
-    omega (arith, c.compute_exit_epoch_and_update_churn-a.ensures.far_off, (settings_sound _ c.requires.settings_value).delay)
+    let far = c.compute_exit_epoch_and_update_churn-a.ensures.far_off in
+    omega (arith, far, (settings_sound _ c.requires.settings_are_sound).delay)
 
 pub returns-then-number-ne-DONE : goal.returns-then-number-ne-DONE
-returns-then-number-ne-DONE c = λ ids ds cs k.
+returns-then-number-ne-DONE c =
+    λ ids ds cs k.
     let a = c.args in
-    let held : Tables = tables ids a.validators.now ds a.partials.now cs in
+    let S = settings_of a.settings in
+    let held = tables ids a.validators.now ds a.partials.now cs in
+    let x = plain_assignment c.compute_exit_epoch_and_update_churn-a.result in
     let sum = c.partial_amounts-sum in
-    let judged : c.size_number-number.result ≡ size_refusal (settings_of a.settings)
-    (queue_partial_withdrawal (settings_of a.settings) a.i.0 a.amount.0 (books_of a.scalars held)) =
+    let given = c.compute_exit_epoch_and_update_churn-a.ensures.assigned ids ds a.partials.now cs in
+    let judged =
     c.size_number-number.ensures
     ∙ ap (λ (n : ℕ). size_number true (leb sum.result.0 (BOUND - a.amount.0)) (leb n BOUND))
     c.withdrawable_epoch-withdrawable.ensures
-    ∙ request_number (settings_of a.settings) (settings_sound _ c.requires.settings_value) a.scalars held k a.i.0
-    a.amount.0 sum.result.0 (plain_assignment c.compute_exit_epoch_and_update_churn-a.result)
-    c.requires.amount_le_bound.0 (sum.ensures ids a.validators.now ds cs)
-    (c.compute_exit_epoch_and_update_churn-a.ensures.assigned ids ds a.partials.now cs) in
+    ∙ request_number S (settings_sound _ c.requires.settings_are_sound) a.scalars held k a.i.0 a.amount.0
+    sum.result.0 x c.requires.amount_and_room.0 (sum.ensures ids a.validators.now ds cs) given in
     judged_refused judged c.if-number-ne-DONE.true
 
 pub push_partial-requires : goal.push_partial-requires
-push_partial-requires c = c.requires.amount_le_bound.1
+push_partial-requires c = c.requires.amount_and_room.1
 
 pub returns : goal.returns
-returns c = λ ids ds cs k.
+returns c =
+    λ ids ds cs k.
     let a = c.args in
     let S = settings_of a.settings in
-    let held : Tables = tables ids a.validators.now ds a.partials.now cs in
-    let sum = c.partial_amounts-sum in
+    let held = tables ids a.validators.now ds a.partials.now cs in
     let x = plain_assignment c.compute_exit_epoch_and_update_churn-a.result in
-    let judged : c.size_number-number.result ≡ size_refusal S
-    (queue_partial_withdrawal S a.i.0 a.amount.0 (books_of a.scalars held)) =
+    let sum = c.partial_amounts-sum in
+    let given = c.compute_exit_epoch_and_update_churn-a.ensures.assigned ids ds a.partials.now cs in
+    let judged =
     c.size_number-number.ensures
     ∙ ap (λ (n : ℕ). size_number true (leb sum.result.0 (BOUND - a.amount.0)) (leb n BOUND))
     c.withdrawable_epoch-withdrawable.ensures
-    ∙ request_number S (settings_sound _ c.requires.settings_value) a.scalars held k a.i.0
-    a.amount.0 sum.result.0 x
-    c.requires.amount_le_bound.0 (sum.ensures ids a.validators.now ds cs)
-    (c.compute_exit_epoch_and_update_churn-a.ensures.assigned ids ds a.partials.now cs) in
-    let last = c.withdrawable_epoch-withdrawable.ensures in
+    ∙ request_number S (settings_sound _ c.requires.settings_are_sound) a.scalars held k a.i.0 a.amount.0
+    sum.result.0 x c.requires.amount_and_room.0 (sum.ensures ids a.validators.now ds cs) given in
     judged_done (sym c.if-number-ne-DONE.false ∙ judged)
     (partial_stepped S a.scalars a.i.0 a.amount.0 x a.partials.now _ ids a.validators.now ds cs
-    (rw last at c.push_partial.ensures)
+    (rw c.withdrawable_epoch-withdrawable.ensures at c.push_partial.ensures)
     (c.with_partials-queued.ensures
     ∙ ap (λ (s : Scalars). scalars.with_partials s (a.scalars.partials + 1)) c.with_exit_churn-charged.ensures)
-    (c.compute_exit_epoch_and_update_churn-a.ensures.assigned ids ds a.partials.now cs))
+    given)

@@ -1,6 +1,6 @@
 use mathlib.Core.Path.{sym, ap, ◌∙◌}
 use mathlib.Core.List.{[]}
-use Prim.Native.Nat.{ℕ, ◌+◌, ◌<◌}
+use Prim.Native.Nat.{ℕ}
 use native.Mathlib.Omega.{arith}
 use Rattle.rules.specs.BlockProcessing.{request_partial_withdrawal}
 use Rattle.primitives.specs.Settings.{settings_of}
@@ -16,14 +16,15 @@ pub has_excess-requires : goal.has_excess-requires
 unfolding books_of
 has_excess-requires c =
     let a = c.args in
-    let most = owed_at_most a.i.0 (partials_of a.scalars a.partials.now) in record {
-      settings_value = c.requires.settings_value;
-      pending_le_bound = omega (
-        arith,
-        most,
-        c.get_pending_balance_to_withdraw-pending.ensures [] [] [] [],
-        c.requires.partials.amounts,
-      );
+    record {
+      settings_are_sound = c.requires.settings_are_sound;
+      pending_bound =
+          omega (
+            arith,
+            owed_at_most a.i.0 (partials_of a.scalars a.partials.now),
+            c.get_pending_balance_to_withdraw-pending.ensures [] [] [] [],
+            c.requires.partials.amounts,
+          );
     }
 
 pub returns-then-not-has_excess : goal.returns-then-not-has_excess
@@ -33,21 +34,30 @@ returns-then-not-has_excess c =
     let owed = c.get_pending_balance_to_withdraw-pending in
     judged_same k
     (partial_none (settings_of a.settings) a.scalars (tables ids a.validators.now ds a.partials.now cs)
-    a.i.0 c.requires.i_lt_validators.0 (plain_validator a.v) owed.result.0 read
+    a.i.0 c.requires.known_validator.0 (plain_validator a.v) owed.result.0 read
     (owed.ensures ids a.validators.now ds cs) a.amount.0
     (sym c.has_excess.ensures ∙ c.if-not-has_excess.true))
 
 pub to_withdraw-withdrawn-requires : goal.to_withdraw-withdrawn-requires
 to_withdraw-withdrawn-requires c =
-    let excess : let a = c.args in a.settings.min_activation_balance.0 + c.get_pending_balance_to_withdraw-pending.result.0 < a.v.balance.0 = let a = c.args in
+    let a = c.args in
     excess_above (settings_of a.settings) (plain_validator a.v)
-    c.get_pending_balance_to_withdraw-pending.result.0
-    (sym c.has_excess.ensures ∙ c.if-not-has_excess.false) in
-    excess
+    c.get_pending_balance_to_withdraw-pending.result.0 (sym c.has_excess.ensures ∙ c.if-not-has_excess.false)
 
 pub queue_partial_withdrawal-requires : goal.queue_partial_withdrawal-requires
 unfolding to_withdraw
-queue_partial_withdrawal-requires c = record { settings_value = c.requires.settings_value; registry = c.requires.registry; accounts = c.requires.accounts; partials = c.requires.partials; amount_le_bound = (omega (arith, c.to_withdraw-withdrawn.ensures, c.requires.i_lt_validators.1), c.requires.i_lt_validators.2) }
+queue_partial_withdrawal-requires c =
+    let p = c.requires in
+    record {
+      settings_are_sound = p.settings_are_sound;
+      registry = p.registry;
+      accounts = p.accounts;
+      partials = p.partials;
+      amount_and_room = (
+        omega (arith, c.to_withdraw-withdrawn.ensures, p.known_validator.1),
+        p.known_validator.2,
+      );
+    }
 
 pub returns : goal.returns
 returns c =
@@ -58,7 +68,7 @@ returns c =
     let owed = c.get_pending_balance_to_withdraw-pending in
     judged_as (request_partial_withdrawal S a.i.0 a.amount.0)
     (ap (λ (n : ℕ). queue_partial_withdrawal S a.i.0 n (books_of a.scalars t)) c.to_withdraw-withdrawn.ensures
-    ∙ partial_some S a.scalars t a.i.0 c.requires.i_lt_validators.0 (plain_validator a.v)
+    ∙ partial_some S a.scalars t a.i.0 c.requires.known_validator.0 (plain_validator a.v)
     owed.result.0 read (owed.ensures ids a.validators.now ds cs) a.amount.0
     (sym c.has_excess.ensures ∙ c.if-not-has_excess.false))
     (c.queue_partial_withdrawal.ensures ids ds cs k)
