@@ -40,7 +40,7 @@ pub fn held(
     partials: &[u64],
     consolidations: &[u64],
 ) -> Total
-    ensures result_value { total_number result
+    ensures number { total_number result
         ≡ handed_refusal (settings_of settings)
         (books_of scalars
         (tables identities.now validators.now deposits.now
@@ -48,7 +48,7 @@ pub fn held(
         (room_of
         (tables identities.now validators.now deposits.now
         partials.now consolidations.now)) }
-    ensures result_value_2 { total_sum result
+    ensures sum { total_sum result
         ≡ total_given (settings_of settings)
         (books_of scalars
         (tables identities.now validators.now deposits.now

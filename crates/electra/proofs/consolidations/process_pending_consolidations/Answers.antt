@@ -1,0 +1,42 @@
+use mathlib.Core.Path.{sym, ◌∙◌}
+use borrow.Author.Tests.{leb-true}
+use Rattle.acceptance.specs.Handed.{accepted}
+use Rattle.call_answers.specs.Called.{handed_refused}
+use Rattle.epoch_turns.specs.Epoch.{consolidations_over, consolidations_done}
+use Rattle.epoch_turns.specs.Epoch.{registry_there, consolidations_there, queue_there}
+use Rattle.electra.proofs.consolidations.process_pending_consolidations.Goals as goal
+
+pub returns-then-handed-ne-DONE : goal.returns-then-handed-ne-DONE
+returns-then-handed-ne-DONE c = handed_refused _ _ _ _ _ c.handed-handed.ensures c.if-handed-ne-DONE.true
+
+pub consolidations_fit-requires : goal.consolidations_fit-requires
+consolidations_fit-requires c =
+    let h = sym c.handed-handed.ensures ∙ c.if-handed-ne-DONE.false in
+    record {
+      registry_ready = registry_there _ _ _ h;
+      consolidations_ready = consolidations_there _ _ _ h;
+      queue_ready = queue_there _ _ _ h;
+    }
+
+pub returns-then-not-consolidations_fit : goal.returns-then-not-consolidations_fit
+returns-then-not-consolidations_fit c =
+    consolidations_over _ _ _ (sym c.handed-handed.ensures ∙ c.if-handed-ne-DONE.false)
+    (sym (c.consolidations_fit.ensures c.args.deposits.now c.args.partials.now) ∙ c.if-not-consolidations_fit.true)
+
+pub process_pending_consolidations-after-requires : goal.process_pending_consolidations-after-requires
+process_pending_consolidations-after-requires c =
+    let h = accepted _ _ _ (sym c.handed-handed.ensures ∙ c.if-handed-ne-DONE.false) in
+    record {
+      room = h.room;
+      books_are_sound = h.books;
+      queue_fits = leb-true _ _
+          (sym (c.consolidations_fit.ensures c.args.deposits.now c.args.partials.now)
+          ∙ c.if-not-consolidations_fit.false);
+    }
+
+pub returns : goal.returns
+returns c =
+    consolidations_done _ _ _ (sym c.handed-handed.ensures ∙ c.if-handed-ne-DONE.false)
+    (sym (c.consolidations_fit.ensures c.args.deposits.now c.args.partials.now)
+    ∙ c.if-not-consolidations_fit.false)
+    c.process_pending_consolidations-after.ensures
