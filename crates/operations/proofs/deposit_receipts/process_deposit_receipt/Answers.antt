@@ -23,6 +23,6 @@ pub process_deposit_receipt-requires : goal.process_deposit_receipt-requires
 process_deposit_receipt-requires c =
     let accepted = sym c.accept-handed.ensures.number_value ∙ c.if-handed-ne-DONE.false in
     let summed = total_held _ _ _ accepted c.accept-handed.ensures.held_value in record {
-      consolidations_value = accepted;
-      sums_value = c.sum_within-sums.ensures ∙ ap (λ (n : ℕ). leb (n + c.args.amount.0) BOUND) summed;
+      accepted = accepted;
+      sums_is = c.sum_within-sums.ensures ∙ ap (λ (n : ℕ). leb (n + c.args.amount.0) BOUND) summed;
     }
