@@ -30,10 +30,10 @@ fn move_active_balance(
     source: ValidatorIndex,
     target: ValidatorIndex,
 )
-    requires source_lt_validators { (source.0 < scalars.validators) × (target.0 < scalars.validators) }
-    requires validators_bound { (scalars.validators ≤ identities_fit identities.now)
+    requires known { (source.0 < scalars.validators) × (target.0 < scalars.validators) }
+    requires held { (scalars.validators ≤ identities_fit identities.now)
         × (scalars.validators ≤ validators_fit validators.old) }
-    requires by_index { (ds ps cs : List ℕ)
+    requires balances_small { (ds ps cs : List ℕ)
         → balances (books_of scalars (tables identities.now validators.old ds ps cs)) ≤ BOUND }
     ensures { (ds ps cs : List ℕ)
         → Stepped (rule.move_active_balance (settings_of settings) source.0 target.0) scalars
@@ -54,21 +54,21 @@ fn consolidate(
     deposits: &mut [u64],
     c: PendingConsolidation,
 ) -> Scalars
-    requires source_index_bound { (c.source_index.0 < scalars.validators) × (c.target_index.0 < scalars.validators) }
-    requires validators_bound { (scalars.validators ≤ identities_fit identities.old)
+    requires known { (c.source_index.0 < scalars.validators) × (c.target_index.0 < scalars.validators) }
+    requires held { (scalars.validators ≤ identities_fit identities.old)
         × (scalars.validators ≤ validators_fit validators.old) }
-    requires by_index { (ps cs : List ℕ)
+    requires held_small { (ps cs : List ℕ)
         → held (books_of scalars (tables identities.old validators.old deposits.old ps cs)) ≤ BOUND }
-    requires by_index_2 { (ps cs : List ℕ)
+    requires queue_room { (ps cs : List ℕ)
         → scalars.deposits
         + length (excess_entry (settings_of settings) c.target_index.0
         (books_of scalars (tables identities.old validators.old deposits.old ps cs)))
         ≤ deposits_fit deposits.old }
-    ensures by_index_3 { (ps cs : List ℕ)
+    ensures stepped { (ps cs : List ℕ)
         → Stepped (rule.consolidate (settings_of settings) (plain_consolidation c)) scalars
         (tables identities.old validators.old deposits.old ps cs)
         (tables identities.new validators.new deposits.new ps cs) result }
-    ensures by_index_4 { (ps cs : List ℕ)
+    ensures deposits_counted { (ps cs : List ℕ)
         → result ≡ with_deposits scalars
         (scalars.deposits
         + length (excess_entry (settings_of settings) c.target_index.0
@@ -145,14 +145,14 @@ pub fn process_pending_consolidations(
     partials: &[u64],
     consolidations: &mut [u64],
 ) -> Scalars
-    requires consolidations_value { enough_room (settings_of settings)
+    requires room { enough_room (settings_of settings)
         (room_of (tables identities.old validators.old deposits.old partials.now consolidations.old))
         ≡ true }
-    requires consolidations_value_2 { sound_books (settings_of settings)
+    requires books_are_sound { sound_books (settings_of settings)
         (books_of scalars
         (tables identities.old validators.old deposits.old partials.now consolidations.old))
         ≡ true }
-    requires consolidations_len_bound { length (rule.process_pending_consolidations (settings_of settings)
+    requires queue_fits { length (rule.process_pending_consolidations (settings_of settings)
         (books_of scalars
         (tables identities.old validators.old deposits.old partials.now consolidations.old))
         ).pending_balance_deposits

@@ -76,8 +76,8 @@ pub fn withdrawals_refusal(list: [Withdrawal; 16], n: usize, expected: ExpectedW
 
 // Pays the first n withdrawals of a list, in order, to some of `registry` validators.
 pub fn pay_withdrawals(validators: &mut [u64], registry: usize, list: [Withdrawal; 16], n: usize)
-    requires registry_bound { (registry ≤ validators_fit validators.old) × (n ≤ 16) }
-    requires n_value { every (withdrawal_in registry) (handed_list list n) ≡ true }
+    requires held { (registry ≤ validators_fit validators.old) × (n ≤ 16) }
+    requires known { every (withdrawal_in registry) (handed_list list n) ≡ true }
     ensures { Paid registry (handed_list list n) validators.old validators.new }
 {
     let mut k = 0;
@@ -121,12 +121,13 @@ pub fn next_validator_index(
     list: [Withdrawal; 16],
     n: usize,
 ) -> ValidatorIndex
-    requires n_bound { (n ≤ 16) × (0 < settings.max_withdrawals_per_payload) }
-    requires max_validators_per_withdrawals_sweep_bound { settings.max_validators_per_withdrawals_sweep ≤ 65536 }
-    requires next_withdrawal_validator_index_bound { scalars.next_withdrawal_validator_index.0 < scalars.validators }
-    requires validators_bound { scalars.validators ≤ 65536 }
-    requires n_value { every (withdrawal_in scalars.validators) (handed_list list n) ≡ true }
-    ensures { (t : Tables) → result.0 ≡ next_validator_index (settings_of settings) (books_of scalars t) (handed_list list n) }
+    requires payload { (n ≤ 16) × (0 < settings.max_withdrawals_per_payload) }
+    requires sweep { settings.max_validators_per_withdrawals_sweep ≤ 65536 }
+    requires cursor { scalars.next_withdrawal_validator_index.0 < scalars.validators }
+    requires registry { scalars.validators ≤ 65536 }
+    requires known { every (withdrawal_in scalars.validators) (handed_list list n) ≡ true }
+    ensures { (t : Tables)
+        → result.0 ≡ next_validator_index (settings_of settings) (books_of scalars t) (handed_list list n) }
 {
     let count = scalars.validators;
     let cursor = scalars.next_withdrawal_validator_index;
@@ -158,7 +159,8 @@ pub fn process_withdrawals(
         (tables identities.now validators.old deposits.now partials.old consolidations.now)) ≡ true }
     requires expected_value { expected ≡ expected_of (settings_of settings) (books_of scalars
         (tables identities.now validators.old deposits.now partials.old consolidations.now)) }
-    requires consolidations_value_3 { same_withdrawals (handed_list list n) (get_expected_withdrawals (settings_of settings) (books_of scalars
+    requires consolidations_value_3 { same_withdrawals (handed_list list n)
+        (get_expected_withdrawals (settings_of settings) (books_of scalars
         (tables identities.now validators.old deposits.now partials.old consolidations.now))) ≡ true }
     ensures { Stepped (process_withdrawals (settings_of settings) (handed_list list n)) scalars
         (tables identities.now validators.old deposits.now

@@ -14,11 +14,11 @@ move_active_balance-requires c =
     let s = c.switch_to_compounding_validator-after in
     let n = ap (λ (r : Scalars). r.validators) (s.ensures.by_index_3 [] []) in
     record {
-      source_lt_validators = (omega (arith, n, p.source_index_bound), omega (arith, n, p.source_index_bound));
-      validators_bound = (omega (arith, n, p.validators_bound, s.auto), omega (arith, n, p.validators_bound, s.auto));
-      by_index = switched_small (settings_of a.settings) a.c.target_index.0 a.scalars s.result
+      known = (omega (arith, n, p.known), omega (arith, n, p.known));
+      held = (omega (arith, n, p.held, s.auto), omega (arith, n, p.held, s.auto));
+      balances_small = switched_small (settings_of a.settings) a.c.target_index.0 a.scalars s.result
           (tables a.identities.now a.validators.now a.deposits.now [] [])
-          (tables s.new.identities s.new.validators s.new.deposits [] []) p.source_index_bound.1 (p.by_index [] [])
+          (tables s.new.identities s.new.validators s.new.deposits [] []) p.known.1 (p.held_small [] [])
           (s.ensures.by_index_2 [] []);
     }
 
@@ -27,9 +27,9 @@ returns c =
     let a = c.args in
     let s = c.switch_to_compounding_validator-after in
     record {
-      by_index_3 = λ ps cs. consolidated (settings_of a.settings) a.c a.scalars s.result
+      stepped = λ ps cs. consolidated (settings_of a.settings) a.c a.scalars s.result
           (tables a.identities.now a.validators.now a.deposits.now ps cs)
           (tables s.new.identities s.new.validators s.new.deposits ps cs) _ (s.ensures.by_index_2 ps cs)
           (c.move_active_balance.ensures _ ps cs);
-      by_index_4 = s.ensures.by_index_3;
+      deposits_counted = s.ensures.by_index_3;
     }

@@ -11,8 +11,8 @@ increase_balance-requires c =
     let active = c.get_active_balance-active_balance in record {
       i_bound = omega (arith, p, c.decrease_balance.auto);
       delta_bound = target_small (settings_of a.settings) a.scalars a.identities.now a.validators.now a.source.0
-          a.target.0 active.result.0 p.source_lt_validators active.ensures _ c.decrease_balance.ensures
-          (p.by_index [] [] []);
+          a.target.0 active.result.0 p.known active.ensures _ c.decrease_balance.ensures
+          (p.balances_small [] [] []);
     }
 
 pub returns : goal.returns
@@ -20,6 +20,6 @@ returns c =
     let a = c.args in
     let active = c.get_active_balance-active_balance in
     moved (settings_of a.settings) a.scalars a.identities.now a.validators.now a.source.0
-    a.target.0 active.result.0 c.requires.source_lt_validators
+    a.target.0 active.result.0 c.requires.known
     active.ensures _ c.decrease_balance.ensures
     _ c.increase_balance.ensures

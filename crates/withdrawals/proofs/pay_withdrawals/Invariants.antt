@@ -6,7 +6,9 @@ use Rattle.withdrawals.specs.Laws.{Paying}
 use Rattle.withdrawals.proofs.pay_withdrawals.Given as goal
 
 abbrev pub invariant-loop-k : goal.invariant-loop-k
-invariant-loop-k l = (length l.list ≡ 16) × Paying l.registry (handed_list l.list l.n) l.initial.validators l.validators l.k
+invariant-loop-k l =
+    (length l.list ≡ 16)
+    × Paying l.registry (handed_list l.list l.n) l.initial.validators l.validators l.k
 
 abbrev pub decreases-loop-k : goal.decreases-loop-k
 decreases-loop-k l = l.n - l.k

@@ -1,10 +1,9 @@
-use mathlib.Core.Path.{refl, sym, ap, ◌∙◌}
+use mathlib.Core.Path.{sym, ap, ◌∙◌}
 use native.Mathlib.Omega.{arith}
-use borrow.Author.Rules.{rules}
 use Rattle.rules.specs.BlockProcessing.{same_withdrawals}
 use Rattle.expected_withdrawals.specs.Expected.{handed_list}
 use Rattle.expected_withdrawals.specs.Handed.{length_handed}
-use Rattle.withdrawals.specs.Laws.{unmapped, differ, same_more, same_stop, same_end}
+use Rattle.withdrawals.specs.Laws.{differ, same_more, same_stop, same_end}
 use Rattle.withdrawals.proofs.same_withdrawals.Goals as goal
 
 pub returns-then-n-expected : goal.returns-then-n-expected
@@ -13,9 +12,6 @@ returns-then-n-expected c =
     differ (handed_list a.list a.n) (handed_list a.expected.list a.expected.count)
     (λ e. c.if-n-expected.true
     (sym (length_handed a.list a.n) ∙ e ∙ length_handed a.expected.list a.expected.count))
-
-pub loop-k-init : goal.loop-k-init
-loop-k-init c = (search rules, search (unmapped, rules), omega arith, omega arith, refl)
 
 pub returns-then-not-same_withdrawal : goal.returns-then-not-same_withdrawal
 returns-then-not-same_withdrawal c =
