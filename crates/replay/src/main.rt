@@ -144,13 +144,11 @@ fn cases(to: &impl Print, file: &mut impl Read, n: u32) -> io::Result<Replay>
     let mut results = buffers::results();
     let mut out = buffers::output();
     let mut r = compare::start();
-    let mut i: u32 = 0;
-    while i < n {
+    for _ in 0..n {
         if !r.whole {
             return Ok(r);
         }
         r = next(to, file, r, &mut sections, &mut results, &mut out)?;
-        i += 1;
     }
     Ok(r)
 }
