@@ -1,4 +1,3 @@
-use borrow.Author.Rules.{rules}
 use Rattle.runs.specs.Answers.{nothing_done, all_done}
 use Rattle.runs.proofs.carry_out.Goals as goal
 

@@ -26,16 +26,16 @@ overflow_add-i c = omega (arith, c.loop-i-test.true, c.requires.calls_at.most)
 pub loop-i-preserved : goal.loop-i-preserved
 loop-i-preserved c =
     let line = c.carry_out_line-done in
-    let kept = record {
-      identities = line.auto.identities;
-      validators = line.auto.validators;
-      deposits = line.auto.deposits;
-      partials = line.auto.partials;
-      consolidations = line.auto.consolidations;
-    } in
     let next = c.next_call-k.ensures in (
       carrying_more c.loop-i.invariant.0 c.loop-i-test.true c.requires.results_hold_calls line.ensures.written
-          kept next.0 next.1,
+          record {
+            identities = line.auto.identities;
+            validators = line.auto.validators;
+            deposits = line.auto.deposits;
+            partials = line.auto.partials;
+            consolidations = line.auto.consolidations;
+          }
+          next.0 next.1,
       line.ensures.still_holds,
     )
 

@@ -1,6 +1,4 @@
 use mathlib.Core.Path.{sym, ◌∙◌}
-use borrow.Author.Tests.{not-true, not-false}
-use borrow.Author.Rules.{rules}
 use Rattle.acceptance.specs.Total.{total_held}
 use Rattle.runs.specs.Answers.{books_refused, file_refused, results_refused, nothing_refused}
 use Rattle.runs.proofs.judge.Goals as goal
@@ -20,7 +18,8 @@ pub returns-then-space-count : goal.returns-then-space-count
 returns-then-space-count c =
     let h = sym c.accept-handed.ensures.number_value ∙ c.if-handed-ne-DONE.false in
     let good = sym c.calls_file_ok.ensures ∙ c.if-not-calls_file_ok.false in
-    results_refused _ _ _ _ _ h good c.calls_count-count.ensures c.refused-then-space-count.ensures c.if-space-count.true
+    results_refused _ _ _ _ _ h good c.calls_count-count.ensures c.refused-then-space-count.ensures
+    c.if-space-count.true
 
 pub returns : goal.returns
 returns c =

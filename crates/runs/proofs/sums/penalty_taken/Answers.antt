@@ -1,7 +1,6 @@
 use mathlib.Core.Path.{sym, ap, ◌∙◌}
 use Prim.Native.Nat.{min}
 use native.Mathlib.Omega.{arith}
-use borrow.Author.Rules.{rules}
 use Rattle.runs.specs.Sums.{other_taken, penalty_beyond, penalty_within}
 use Rattle.runs.proofs.sums.penalty_taken.Goals as goal
 
