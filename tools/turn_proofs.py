@@ -32,7 +32,7 @@ def pieces(text):
     i = 0
     while i < len(lines):
         l = lines[i]
-        if l.startswith("use ") or (l.startswith("    ") and uses and not decls and not cur and (
+        if l.startswith("use ") or (l.startswith((" ", "}")) and uses and not decls and not cur and (
                 ("}" not in uses[-1] and "{" in uses[-1]) or uses[-1].endswith(" as"))):
             if l.startswith("use "):
                 uses.append(l)
@@ -391,7 +391,7 @@ def turn(path, crate, key, entry):
     folder = os.path.dirname(path)
     module = key[: -len(".Lts")].replace("Rattle-", "Rattle.", 1)
     module = re.sub(r"^Rattle\.(\w+)-proofs", r"Rattle.\1.proofs", module)
-    keep = [u for u in uses if not u.rstrip().endswith(".Statement.{statement}") and not u.rstrip().endswith(".Tie as tie")]
+    keep = [u for u in uses if ".Statement.{" not in u and not u.rstrip().endswith(".Tie as tie")]
     keep = [u for u in keep if ".Tie." not in u and ".Statement" not in u and ".Reads as" not in u]
     if problems:
         print(f"{path}: not whole: " + "; ".join(problems[:6]))
