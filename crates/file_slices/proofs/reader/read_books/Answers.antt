@@ -1,0 +1,52 @@
+use Rattle.std.proofs.Common.{ap, not}
+use mathlib.Core.Bool.{Bool}
+use mathlib.Core.List.{List, [], ◌∷◌}
+use lib.Dec.{leb}
+use lib.ListN.{length}
+use borrow.Author.Tests.{leb-true}
+use Rattle.records.specs.Books.{Tables, tables}
+use Rattle.slices.specs.Exported.{fit_room, fit_test}
+use Rattle.file_slices.specs.Read.{read_unfit, read_refused, read_done}
+use borrow.Author.Rules.{rules}
+use Rattle.file_slices.proofs.reader.read_books.Goals as goal
+
+pub returns-then-not-read_fits : goal.returns-then-not-read_fits
+returns-then-not-read_fits c =
+    let lent = tables c.args.identities.now c.args.validators.now c.args.deposits.now c.args.partials.now
+    c.args.consolidations.now in
+    read_unfit c.args.file.now
+    lent
+    c.args.settings.now c.args.scalars.now c.read_fits.ensures (ap not c.if-not-read_fits.true)
+    c.unfit_answer.ensures
+
+pub returns-then-opened-ne-DONE : goal.returns-then-opened-ne-DONE
+returns-then-opened-ne-DONE c =
+    let lent = tables c.args.identities.now c.args.validators.now c.args.deposits.now c.args.partials.now
+    c.args.consolidations.now in
+    read_refused c.args.file.now
+    lent
+    c.args.settings.now c.args.scalars.now c.read_fits.ensures (ap not c.if-not-read_fits.false)
+    c.read_books-opened.ensures c.if-opened-ne-DONE.true
+
+pub store_settings-requires : goal.store_settings-requires
+store_settings-requires c =
+    let others = leb 19 (length c.args.settings.now) ∷ [] in
+    leb-true 19 (length c.args.settings.now)
+    (fit_test c.args.scalars.now others c.read_fits.ensures (ap not c.if-not-read_fits.false) 0)
+
+pub store_scalars-requires : goal.store_scalars-requires
+store_scalars-requires c =
+    let others = leb 19 (length c.args.settings.now) ∷ [] in
+    fit_room c.args.scalars.now
+    others
+    c.read_fits.ensures (ap not c.if-not-read_fits.false)
+
+pub returns : goal.returns
+returns c =
+    let lent = tables c.args.identities.now c.args.validators.now c.args.deposits.now c.args.partials.now
+    c.args.consolidations.now in
+    read_done c.args.file.now
+    lent
+    c.args.settings.now c.args.scalars.now c.read_fits.ensures (ap not c.if-not-read_fits.false)
+    c.read_books-opened.ensures c.if-opened-ne-DONE.false c.store_settings.ensures
+    c.store_scalars.ensures

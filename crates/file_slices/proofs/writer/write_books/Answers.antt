@@ -1,0 +1,26 @@
+use Rattle.std.proofs.Common.{ap, not}
+use mathlib.Core.List.{[]}
+use Rattle.slices.specs.Exported.{fit_room}
+use Rattle.file_slices.specs.Written.{written_unfit, written_refused, written_done}
+use borrow.Author.Rules.{rules}
+use Rattle.file_slices.proofs.writer.write_books.Goals as goal
+
+pub returns-then-not-scalars_fit : goal.returns-then-not-scalars_fit
+returns-then-not-scalars_fit c =
+    written_unfit c.args.settings.now c.args.scalars.now c.settings_from-chain.ensures
+    c.scalars_fit.ensures (ap not c.if-not-scalars_fit.true) c.unfit_answer.ensures
+
+pub scalars_from-numbers-requires : goal.scalars_from-numbers-requires
+scalars_from-numbers-requires c = fit_room c.args.scalars.now [] c.scalars_fit.ensures (ap not c.if-not-scalars_fit.false)
+
+pub returns-then-file-ne-DONE : goal.returns-then-file-ne-DONE
+returns-then-file-ne-DONE c =
+    written_refused c.args.settings.now c.args.scalars.now
+    c.settings_from-chain.ensures c.scalars_fit.ensures (ap not c.if-not-scalars_fit.false)
+    c.scalars_from-numbers.ensures c.write_books-file.ensures c.if-file-ne-DONE.true
+
+pub returns : goal.returns
+returns c =
+    written_done c.args.settings.now c.args.scalars.now c.settings_from-chain.ensures
+    c.scalars_fit.ensures (ap not c.if-not-scalars_fit.false) c.scalars_from-numbers.ensures
+    c.write_books-file.ensures c.if-file-ne-DONE.false
