@@ -3,5 +3,4 @@ pub mod Output
 pub mod Closing
 pub mod Promise
 pub mod Carried
-pub mod Laws
 pub mod ClosingLaws

@@ -1,8 +1,8 @@
 -- No more than 9,999 calls come, so that the table fits.
 use mathlib.Core.Path.{refl}
 use native.Mathlib.Omega.{arith}
-use Rattle.books_output.specs.Laws.{program_buffers, output_short, output_refused, output_done}
-use Rattle.books_output.specs.Laws.{printed_within, printed_part}
+use Rattle.books_output.proofs.Laws.{program_buffers, output_short, output_refused, output_done}
+use Rattle.books_output.proofs.Laws.{printed_within, printed_part}
 use Rattle.books_output.proofs.books_output.Goals as goal
 
 pub returns-then-out-lt-MOST_PRINTED : goal.returns-then-out-lt-MOST_PRINTED

@@ -8,7 +8,7 @@ use Rattle.primitives.specs.declared.Scalars.{Scalars}
 use Rattle.primitives.specs.Scalars as scalars
 use Rattle.records.specs.Books.{tables}
 use Rattle.call_answers.specs.Answers.{judged_done, judged_refused}
-use Rattle.receipt_operations.specs.Receipts.{added_number, added_stepped}
+use Rattle.receipt_operations.proofs.Receipts.{added_number, added_stepped}
 use Rattle.receipt_operations.proofs.Sizes.{sums_known, limits_kept}
 use Rattle.receipt_operations.proofs.add_validator_to_registry.Goals as goal
 

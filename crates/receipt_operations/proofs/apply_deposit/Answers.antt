@@ -8,7 +8,8 @@ use Rattle.records.specs.Plain.{plain_validator}
 use Rattle.records.specs.Books.{tables, books_of}
 use Rattle.call_answers.specs.Tests.{fails, passes}
 use Rattle.call_answers.specs.Answers.{judged_same, judged_as}
-use Rattle.receipt_operations.specs.Receipts.{known_deposit, switches_eth1, apply_known, apply_unknown}
+use Rattle.receipt_operations.specs.Receipts.{known_deposit}
+use Rattle.receipt_operations.proofs.Receipts.{switches_eth1, apply_known, apply_unknown}
 use Rattle.receipt_operations.proofs.apply_deposit.Goals as goal
 
 pub validator_at-v-requires : goal.validator_at-v-requires

@@ -7,8 +7,8 @@ use Rattle.primitives.specs.declared.Scalars.{Scalars}
 use Rattle.records.specs.Plain.{plain_validator}
 use Rattle.records.specs.Books.{tables}
 use Rattle.call_answers.specs.Answers.{judged_done, judged_refused}
-use Rattle.receipt_operations.specs.Receipts.{known_number, known_stepped, switch_stepped}
-use Rattle.receipt_operations.specs.Receipts.{few_entries, switch_room}
+use Rattle.receipt_operations.proofs.Receipts.{known_number, known_stepped, switch_stepped}
+use Rattle.receipt_operations.proofs.Receipts.{few_entries, switch_room}
 use Rattle.receipt_operations.proofs.Sizes.{sums_known, limit_kept}
 use Rattle.receipt_operations.proofs.deposit_to_known.Goals as goal
 

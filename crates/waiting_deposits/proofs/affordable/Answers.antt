@@ -1,5 +1,5 @@
 use Rattle.std.proofs.Common.{◌≡◌, true, false, sym, ◌∙◌, arith, rules}
-use Rattle.waiting_deposits.specs.Affords.{at_end, at_over, at_more}
+use Rattle.waiting_deposits.proofs.Affords.{at_end, at_over, at_more}
 use Rattle.waiting_deposits.proofs.affordable.Goals as goal
 
 pub loop-i-preserved : goal.loop-i-preserved

@@ -1,5 +1,5 @@
 -- The writer is refused for the buffer alone: closing books are accepted.
-use Rattle.books_output.specs.Laws.{program_buffers}
+use Rattle.books_output.proofs.Laws.{program_buffers}
 use Rattle.books_output.specs.ClosingLaws.{closing_refused, closing_done, closing_within, closing_part}
 use Rattle.books_output.proofs.closing.closing_file.Goals as goal
 

@@ -1,7 +1,7 @@
 -- The opening is judged before the calls are looked at, and they are carried out on what was read into the tables.
 use mathlib.Core.Path.{refl}
 use native.Mathlib.Omega.{arith}
-use Rattle.books_output.specs.Laws.{refused_files, calls_too_long, calls_carried}
+use Rattle.books_output.proofs.Laws.{refused_files, calls_too_long, calls_carried}
 use Rattle.books_output.proofs.files.carry_out_files.Goals as goal
 
 pub returns-then-opened-ne-DONE : goal.returns-then-opened-ne-DONE

@@ -1,7 +1,7 @@
 -- The room stays, since the tables keep their lengths.
 use native.Mathlib.Omega.{arith}
 use Rattle.records.specs.Books.{tables}
-use Rattle.books_output.specs.Laws.{opening_too_long, opening_read}
+use Rattle.books_output.proofs.Laws.{opening_too_long, opening_read}
 use Rattle.books_output.proofs.files.open.Goals as goal
 
 pub returns-then-file-gt-MOST_BYTES : goal.returns-then-file-gt-MOST_BYTES
