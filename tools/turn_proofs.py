@@ -427,8 +427,7 @@ def turn(path, crate, key, entry):
     if out:
         t = "\n".join(head + keep + keep_a + [f"use {module}.Goals as goal", ""]) + "\n" + "\n\n".join(out) + "\n"
         open(folder + "/Answers.antt", "w", encoding="utf-8").write(t)
-    os.makedirs(f"/tmp/old-proofs/{crate}", exist_ok=True)
-    os.rename(path, f"/tmp/old-proofs/{crate}/{module}.antt")
+    os.remove(path)
     return not problems
 
 
