@@ -3,7 +3,7 @@
  * `rt lib` in crates/solarbasil writes out/libsolarbasil.a there. It needs memset and memcpy of the C library.
  *
  * Stack. The turn, the consolidation step and a calls file take less than 530,000 bytes, every other call less than
- * 8,000. A thread with a stack of 1 MiB has enough for all of them.
+ * 8,000, as counted on the library that the older kit built. A thread with a stack of 1 MiB had enough for all.
  *
  * Buffers. Each is a pointer and a length, which counts items and not bytes. A function may be lent any numbers and any
  * lengths: what it answers and leaves is proved for all of them. The caller owes what C cannot check: each pointer is
