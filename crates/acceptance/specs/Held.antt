@@ -1,28 +1,31 @@
 -- What books hold: as the tests find it, and what `held` needs.
-use Rattle.std.specs.Prelude.{◌≡◌, ℕ, ◌+◌, ◌<◌, ◌≤◌, false, List, nat_le, refl}
-use Rattle.std.proofs.Common.{ap₂, ◌∙◌, arith}
-use Rattle.std.proofs.lemmas.Bool.{lt-leb}
-use Rattle.lists.specs.Base.{total}
+use Rattle.std.specs.Prelude.{◌≡◌, ℕ, ◌+◌, ◌≤◌, true, false, List, refl, Option, Some, None}
+use Rattle.std.proofs.Common.{ap, ap₂, sym, ◌∙◌, arith}
+use Rattle.lists.specs.Base.{when◌then◌else◌, total}
+use Rattle.lists.specs.Laws.{if_true, if_false}
 use Rattle.tables.specs.Rows.{rows}
 use Rattle.tables.specs.Totals.{total_ext}
 use Rattle.rules.specs.Types.{BOUND, Settings, Books}
 use Rattle.rules.specs.Acceptance.{sound_books, held}
 use Rattle.rule_laws.specs.Accepted.{SoundBooks}
+use Rattle.primitives.specs.declared.Gwei.{Gwei}
 use Rattle.primitives.specs.declared.Scalars.{Scalars}
 use Rattle.records.specs.Layout.{validator_at, deposit_at, balance_at, validators_fit, deposits_fit}
 use Rattle.records.specs.Books.{Tables, books_of}
 use Rattle.records.specs.Reading.{EnoughRoom, validators_count, deposits_count}
 
--- a number within the bound is the sum of sound books; one over it says that they are unsound
-pub record BooksHeld (S : Settings) (b : Books) (sum : ℕ) : Type 0 where
-  pub sound : nat_le sum BOUND ≡ sound_books S b
-  pub sum_of : sum ≤ BOUND → sum ≡ held b
+-- sound books give what they hold, and unsound ones none
+unfoldable pub held_if_sound : Settings → Books → Option Gwei
+held_if_sound S b = when sound_books S b then Some (record { 0 = held b }) else None
 
-pub none_held : (S : Settings) (b : Books) (sum : ℕ) → BOUND < sum → false ≡ sound_books S b → BooksHeld S b sum
-none_held S b sum h e = record {
-  sound = lt-leb sum BOUND h ∙ e;
-  sum_of = λ k. let z : ⊥ = omega arith in absurd z;
-}
+pub none_held : (S : Settings) (b : Books) → false ≡ sound_books S b → None ≡ held_if_sound S b
+unfolding held_if_sound
+none_held S b e = sym (if_false _ _ _ (sym e))
+
+pub some_held : (S : Settings) (b : Books) {x : Gwei} → true ≡ sound_books S b → x.0 ≡ held b
+    → Some x ≡ held_if_sound S b
+unfolding held_if_sound
+some_held S b e h = ap (λ (k : ℕ). Some (record { 0 = k })) h ∙ sym (if_true _ _ _ (sym e))
 
 -- the first n balances of a table
 abbrev pub balances_in : ℕ → List ℕ → ℕ

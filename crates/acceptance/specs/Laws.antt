@@ -1,13 +1,15 @@
 -- Laws of conjunctions, and of sums that are tested on the way.
-use Rattle.std.specs.Prelude.{◌≡◌, ℕ, ◌+◌, ◌-◌, ◌<◌, ◌≤◌, min, Bool, true, false, ◌&&◌, List, [], ◌∷◌, drop, nat_le, refl}
+use Rattle.std.specs.Prelude.{◌≡◌, ℕ, ◌+◌, ◌-◌, ◌<◌, ◌≤◌, min, Bool, true, false, ◌&&◌, List, [], ◌∷◌, drop, nat_le, refl, Option, Some, None}
 use Rattle.std.proofs.Common.{sym, ap, ◌∙◌, leb-true, leb-false, le-leb}
 use native.Mathlib.Omega.{arith}
 use Rattle.std.proofs.lemmas.Bool.{lt-leb}
+use Rattle.std.proofs.lemmas.Option.{none-some}
 use Rattle.lists.specs.Base.{all, total, every}
 use Rattle.lists.specs.Laws.{both, join, and_true, and_false, and_assoc, same_test, if_true, if_false}
 use Rattle.tables.specs.Rows.{rows, drop_rows_at, drop_rows_end}
 use Rattle.rules.specs.Types.{BOUND}
-use Rattle.acceptance.specs.Tests.{tested_sum}
+use Rattle.primitives.specs.declared.Gwei.{Gwei}
+use Rattle.acceptance.specs.Tests.{tested_sum, bounded}
 
 -- ---- conjunctions
 
@@ -51,6 +53,38 @@ every_both t u (x ∷ xs) e =
     let tests = both (t x) (u x) here.0 in
     let rest = every_both t u xs here.1 in
     (join tests.0 rest.0, join tests.1 rest.1)
+
+-- ---- sums within the bound
+
+pub bounded_some : {x : Gwei} {n : ℕ} → x.0 ≡ n → x.0 ≤ BOUND → Some x ≡ bounded n
+unfolding bounded
+bounded_some {x} {n} e h =
+    ap (λ (k : ℕ). Some (record { 0 = k })) e ∙ sym (if_true (nat_le n BOUND) _ _ (le-leb n BOUND (omega (arith, e, h))))
+
+pub bounded_none : {n : ℕ} → BOUND < n → None ≡ bounded n
+unfolding bounded
+bounded_none {n} h = sym (if_false (nat_le n BOUND) _ _ (lt-leb n BOUND h))
+
+abbrev sum_value : Option Gwei → ℕ
+sum_value (Some x) = x.0
+sum_value None = 0
+
+pub bounded_is : {x : Gwei} {n : ℕ} → Some x ≡ bounded n → (x.0 ≡ n) × (x.0 ≤ BOUND)
+bounded_is {x} {n} e = go (nat_le n BOUND) refl
+  where
+    go : (b : Bool) → nat_le n BOUND ≡ b → (x.0 ≡ n) × (x.0 ≤ BOUND)
+    go true h =
+        let small = leb-true n BOUND h in
+        let same : x.0 ≡ n = ap sum_value (e ∙ sym (bounded_some {x = record { 0 = n }} refl small)) in
+        (same, omega (arith, same, small))
+    go false h = absurd (none-some _ (bounded_none (leb-false n BOUND h) ∙ sym e))
+
+pub bounded_over : {n : ℕ} → None ≡ bounded n → BOUND < n
+bounded_over {n} e = go (nat_le n BOUND) refl
+  where
+    go : (b : Bool) → nat_le n BOUND ≡ b → BOUND < n
+    go true h = absurd (none-some _ (e ∙ sym (bounded_some {x = record { 0 = n }} refl (leb-true n BOUND h))))
+    go false h = leb-false n BOUND h
 
 -- ---- sums that are tested
 
@@ -101,14 +135,20 @@ module _ {A : Type 0} (t : A → Bool) (w : A → ℕ) where
         → tested_sum t w (sum + x) (drop (i + 1) (rows n g)) ≡ tested_sum t w start (rows n g)
     tested_more h p x e = rw e (passes sum (g i) (drop (i + 1) (rows n g)) p ∙ at_record h)
 
-    pub tested_stop : i < n → t (g i) ≡ false → BOUND + 1 ≡ tested_sum t w start (rows n g)
+    pub tested_stop : i < n → t (g i) ≡ false → None ≡ bounded (tested_sum t w start (rows n g))
     tested_stop h p =
+        let e =
         sym (fails sum (g i ∷ drop (i + 1) (rows n g))
-        (ap (λ b. b && every t (drop (i + 1) (rows n g))) p)) ∙ at_record h
+        (ap (λ b. b && every t (drop (i + 1) (rows n g))) p)) ∙ at_record h in
+        bounded_none (omega (arith, e))
 
-    pub tested_over : i < n → (x : ℕ) → x ≡ w (g i) → BOUND < sum + x → BOUND + 1 ≡ tested_sum t w start (rows n g)
-    tested_over h x e p = sym (over sum (g i ∷ drop (i + 1) (rows n g)) (omega arith)) ∙ at_record h
+    pub tested_over : i < n → (x : ℕ) → x ≡ w (g i) → BOUND < sum + x
+        → None ≡ bounded (tested_sum t w start (rows n g))
+    tested_over h x e p =
+        let f = sym (over sum (g i ∷ drop (i + 1) (rows n g)) (omega arith)) ∙ at_record h in
+        bounded_none (omega (arith, f))
 
-    pub tested_done : n ≤ i → sum ≤ BOUND → sum ≡ tested_sum t w start (rows n g)
+    pub tested_done : n ≤ i → sum ≤ BOUND → Some (record { 0 = sum }) ≡ bounded (tested_sum t w start (rows n g))
     tested_done h p =
-        sym (tested_within sum [] refl (omega arith) ∙ omega arith) ∙ (rw (drop_rows_end n g i h) at inv)
+        bounded_some
+        (sym (tested_within sum [] refl (omega arith) ∙ omega arith) ∙ (rw (drop_rows_end n g i h) at inv)) p

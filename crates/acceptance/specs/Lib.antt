@@ -6,3 +6,4 @@ pub mod Books
 pub mod Handed
 pub mod Held
 pub mod Total
+pub mod Amounts

@@ -1,5 +1,5 @@
 -- What one pass over the bits of all validators tells: where it finds them small, they pass their tests.
-use Rattle.std.specs.Prelude.{◌≡◌, ℕ, ◌+◌, ◌*◌, ◌%◌, ◌^◌, ◌<◌, ◌≤◌, Bool, true, false, ◌||◌, List, ◌==◌, bit_or, nat_le, refl}
+use Rattle.std.specs.Prelude.{◌≡◌, Some, ℕ, ◌+◌, ◌*◌, ◌%◌, ◌^◌, ◌<◌, ◌≤◌, Bool, true, false, ◌||◌, List, ◌==◌, bit_or, nat_le, refl}
 use Rattle.std.proofs.Common.{ap, ap₂, arith, below_more, le-leb, leb-false, eq-eqb}
 use Rattle.std.specs.Int.Bits.{or_add_and}
 use Rattle.std.proofs.lemmas.Nat.{and_le_l, and_le_r}
@@ -13,8 +13,8 @@ use Rattle.rules.specs.Acceptance.{epoch_within}
 use Rattle.records.specs.Layout.{validator_at, slashed_at, effective_balance_at, balance_at}
 use Rattle.records.specs.Layout.{activation_eligibility_epoch_at, activation_epoch_at, exit_epoch_at}
 use Rattle.records.specs.Layout.{withdrawable_epoch_at}
-use Rattle.acceptance.specs.Tests.{validator_within, tested_sum}
-use Rattle.acceptance.specs.Laws.{tested_within}
+use Rattle.acceptance.specs.Tests.{validator_within, tested_sum, bounded}
+use Rattle.acceptance.specs.Laws.{tested_within, bounded_some}
 
 -- effective balance and epochs of validator i pass their tests
 pub record Within (most : ℕ) (ws : List ℕ) (i : ℕ) : Type 0 where
@@ -79,7 +79,7 @@ small_within s ids =
 
 pub small_sum : (most : ℕ) (ws : List ℕ) (n sum : ℕ) → n ≤ 2 ^ 16 → ((j : ℕ) → j < n → Small most ws j)
     → sum ≡ total (λ x. x % 2 ^ 46) (rows n (balance_at ws)) → (ids : List ℕ)
-    → sum ≡ tested_sum (validator_within most) (λ v. v.balance) 0 (rows n (validator_at ids ws))
+    → Some (record { 0 = sum }) ≡ bounded (tested_sum (validator_within most) (λ v. v.balance) 0 (rows n (validator_at ids ws)))
 small_sum most ws n sum f small e ids =
     let of = validator_at ids ws in
     let exact : total (λ v. v.balance) (rows n of) ≡ total (λ x. x % 2 ^ 46) (rows n (balance_at ws)) =
@@ -88,4 +88,4 @@ small_sum most ws n sum f small e ids =
     total_bound (λ v. v.balance) (2 ^ 46) n of (λ i h. omega (arith, (small i h).balance)) in
     let passes = every_rows (validator_within most) n of (λ i h. small_within (small i h) ids) in
     let tested = tested_within (validator_within most) (λ v. v.balance) 0 (rows n of) passes (omega arith) in
-    omega (arith, e, exact, tested)
+    bounded_some (omega (arith, e, exact, tested)) (omega (arith, e, exact, bound))

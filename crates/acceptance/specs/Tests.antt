@@ -1,8 +1,9 @@
 -- The tests of one record, and of the scalars, as one conjunction each; and the sum of records that are tested.
-use Rattle.std.specs.Prelude.{ℕ, ◌+◌, Bool, ◌&&◌, List, [], ◌∷◌, nat_le, nat_lt}
+use Rattle.std.specs.Prelude.{ℕ, ◌+◌, Bool, ◌&&◌, List, [], ◌∷◌, nat_le, nat_lt, Option, Some, None}
 use Rattle.lists.specs.Base.{when◌then◌else◌, all, total, every}
 use Rattle.rules.specs.Types.{BOUND, Settings, Validator, PendingPartialWithdrawal}
 use Rattle.rules.specs.Acceptance.{is_flag, epochs_within, partial_in, partial_epoch_within}
+use Rattle.primitives.specs.declared.Gwei.{Gwei}
 use Rattle.primitives.specs.declared.Scalars.{Scalars}
 
 -- effective balance at most `most`, flag, and epochs of a validator
@@ -34,3 +35,7 @@ scalars_within S s = all
 -- a sum with the numbers of some records added to it; BOUND + 1 where a record fails its test or the sum is over BOUND
 unfoldable pub tested_sum : {A : Type 0} → (A → Bool) → (A → ℕ) → ℕ → List A → ℕ
 tested_sum t w sum xs = when every t xs && nat_le (sum + total w xs) BOUND then sum + total w xs else BOUND + 1
+
+-- a sum within the bound, and none over it
+unfoldable pub bounded : ℕ → Option Gwei
+bounded n = when nat_le n BOUND then Some (record { 0 = n }) else None

@@ -10,14 +10,21 @@ ghost use Rattle.std.specs.Prelude.{◌≡◌, ℕ, ◌+◌, ◌≤◌, true, Li
 ghost use Rattle.rules.specs.Types as rule;
 ghost use Rattle.rules.specs.Acceptance.{sound_settings, held};
 ghost use Rattle.rules.specs.Calls.{enough_room, handed_refusal};
+ghost use Rattle.primitives.specs.Answers.{answer_number, sum_of};
 ghost use Rattle.primitives.specs.Settings.{settings_of};
-ghost use Rattle.records.specs.Books.{tables, books_of, room_of};
+ghost use Rattle.records.specs.Books.{tables, books_of};
+ghost use Rattle.records.specs.Lent.{plain_books, lent_room};
 ghost use Rattle.acceptance.specs.Tests.{scalars_within};
-ghost use Rattle.acceptance.specs.Held.{BooksHeld, HeldReady};
+ghost use Rattle.acceptance.specs.Held.{held_if_sound, HeldReady};
 ghost use Rattle.acceptance.specs.Total.{total_given};
 
-use primitives::{BOUND, Gwei, Scalars, Settings, answers};
-use records::{queues, registry};
+use primitives::answers::Refusal;
+use primitives::{BOUND, Gwei, Scalars, Settings};
+use records::books::Books;
+use records::queues::{
+    self, PendingBalanceDeposit, PendingConsolidation, PendingPartialWithdrawal,
+};
+use records::registry;
 
 // The most that the first five settings may be: 2^44.
 const MOST_GWEI: u64 = 0x1000_0000_0000;
@@ -68,24 +75,17 @@ pub fn settings_sound(settings: Settings) -> bool
 }
 
 // No buffer is shorter than its limit.
-pub fn enough_room(
-    settings: Settings,
-    identities: &[u8],
-    validators: &[u64],
-    deposits: &[u64],
-    partials: &[u64],
-    consolidations: &[u64],
-) -> bool
-    ensures { result
-        ≡ enough_room (settings_of settings)
-        (room_of (tables identities.now validators.now deposits.now
-        partials.now consolidations.now)) }
+pub fn enough_room(settings: Settings, books: &Books<'_>) -> bool
+    ensures { result ≡ enough_room (settings_of settings) (lent_room books.now) }
 {
-    (settings.validator_registry_limit <= registry::identities_fit(identities))
-        & (settings.validator_registry_limit <= registry::validators_fit(validators))
-        & (settings.pending_balance_deposits_limit <= queues::deposits_fit(deposits))
-        & (settings.pending_partial_withdrawals_limit <= queues::partials_fit(partials))
-        & (settings.pending_consolidations_limit <= queues::consolidations_fit(consolidations))
+    let deposits = queues::entries_fit::<PendingBalanceDeposit>(books.deposits);
+    let partials = queues::entries_fit::<PendingPartialWithdrawal>(books.partials);
+    let consolidations = queues::entries_fit::<PendingConsolidation>(books.consolidations);
+    (settings.validator_registry_limit <= registry::identities_fit(books.identities))
+        & (settings.validator_registry_limit <= registry::validators_fit(books.validators))
+        & (settings.pending_balance_deposits_limit <= deposits)
+        & (settings.pending_partial_withdrawals_limit <= partials)
+        & (settings.pending_consolidations_limit <= consolidations)
 }
 
 // What is tested of the scalars and the counts alone.
@@ -107,143 +107,41 @@ pub fn scalars_within(settings: Settings, scalars: Scalars) -> bool
         & (scalars.earliest_consolidation_epoch.0 <= BOUND)
 }
 
-// What sound books hold; BOUND + 1 where the books are unsound. The scalars first: they say how many records each pass
-// may read.
-pub fn books_held(
-    settings: Settings,
-    scalars: Scalars,
-    identities: &[u8],
-    validators: &[u64],
-    deposits: &[u64],
-    partials: &[u64],
-    consolidations: &[u64],
-) -> Gwei
-    requires { enough_room (settings_of settings)
-        (room_of (tables identities.now validators.now deposits.now partials.now consolidations.now))
-        ≡ true }
-    ensures { BooksHeld (settings_of settings)
-        (books_of scalars (tables identities.now validators.now deposits.now
-        partials.now consolidations.now)) result.0 }
+// What sound books hold; none where the books are unsound. The scalars first: they say how many records each pass may
+// read.
+pub fn books_held(settings: Settings, books: &Books<'_>) -> Option<Gwei>
+    requires { enough_room (settings_of settings) (lent_room books.now) ≡ true }
+    ensures { result ≡ held_if_sound (settings_of settings) (plain_books books.now) }
 {
+    let scalars = books.scalars;
     if !scalars_within(settings, scalars) {
-        return Gwei(BOUND + 1);
+        return None;
     }
     let n = scalars.validators;
-    let balances = passes::validators_sum(settings.max_effective_balance_electra, validators, n);
-    if balances.0 > BOUND {
-        return balances;
+    let most = settings.max_effective_balance_electra;
+    let balances = passes::validators_sum(most, books.validators, n)?;
+    let held = passes::deposits_sum(balances, books.deposits, scalars.deposits, n)?;
+    passes::partials_sum(books.partials, scalars.partials, n)?;
+    if !passes::consolidations_in(books.consolidations, scalars.consolidations, n) {
+        return None;
     }
-    let held = passes::deposits_sum(balances, deposits, scalars.deposits, n);
-    if held.0 > BOUND {
-        return held;
-    }
-    let amounts = passes::partials_sum(partials, scalars.partials, n);
-    if amounts.0 > BOUND {
-        return amounts;
-    }
-    if !passes::consolidations_in(consolidations, scalars.consolidations, n) {
-        return Gwei(BOUND + 1);
-    }
-    held
+    Some(held)
 }
 
-// The number that what is handed in is refused with, 1, 3, 2 in this order, and 0 for the sum; or 0, and the sum that
-// the books hold.
-#[derive(Clone, Copy)]
-pub struct Acceptance {
-    pub number: u8,
-    pub held: Gwei,
-}
-
-fn refused(number: u8) -> Acceptance
-    ensures { (result.number ≡ number) × (result.held.0 ≡ 0) }
-{
-    Acceptance {
-        number,
-        held: Gwei(0),
-    }
-}
-
-pub fn accept(
-    settings: Settings,
-    scalars: Scalars,
-    identities: &[u8],
-    validators: &[u64],
-    deposits: &[u64],
-    partials: &[u64],
-    consolidations: &[u64],
-) -> Acceptance
-    ensures number_value { result.number
-        ≡ handed_refusal (settings_of settings)
-        (books_of scalars (tables identities.now validators.now deposits.now
-        partials.now consolidations.now))
-        (room_of (tables identities.now validators.now deposits.now
-        partials.now consolidations.now)) }
-    ensures held_value { result.held.0
-        ≡ total_given (settings_of settings)
-        (books_of scalars (tables identities.now validators.now deposits.now
-        partials.now consolidations.now))
-        (room_of (tables identities.now validators.now deposits.now
-        partials.now consolidations.now)) }
+// The sum that the books hold, where what is handed in is accepted; else it is refused with 1, 3, 2, in this order.
+pub fn accept(settings: Settings, books: &Books<'_>) -> Result<Gwei, Refusal>
+    ensures number_value { answer_number result
+        ≡ handed_refusal (settings_of settings) (plain_books books.now) (lent_room books.now) }
+    ensures held_value { sum_of result
+        ≡ total_given (settings_of settings) (plain_books books.now) (lent_room books.now) }
 {
     if !settings_sound(settings) {
-        return refused(answers::UNSOUND_SETTINGS);
+        return Err(Refusal::UnsoundSettings);
     }
-    if !enough_room(
-        settings,
-        identities,
-        validators,
-        deposits,
-        partials,
-        consolidations,
-    ) {
-        return refused(answers::SHORT_BUFFER);
+    if !enough_room(settings, books) {
+        return Err(Refusal::ShortBuffer);
     }
-    let held = books_held(
-        settings,
-        scalars,
-        identities,
-        validators,
-        deposits,
-        partials,
-        consolidations,
-    );
-    if held.0 > BOUND {
-        return refused(answers::UNSOUND_BOOKS);
-    }
-    Acceptance {
-        number: answers::DONE,
-        held,
-    }
-}
-
-// The number alone.
-pub fn handed(
-    settings: Settings,
-    scalars: Scalars,
-    identities: &[u8],
-    validators: &[u64],
-    deposits: &[u64],
-    partials: &[u64],
-    consolidations: &[u64],
-) -> u8
-    ensures { result
-        ≡ handed_refusal (settings_of settings)
-        (books_of scalars (tables identities.now validators.now deposits.now
-        partials.now consolidations.now))
-        (room_of (tables identities.now validators.now deposits.now
-        partials.now consolidations.now)) }
-{
-    let acceptance = accept(
-        settings,
-        scalars,
-        identities,
-        validators,
-        deposits,
-        partials,
-        consolidations,
-    );
-    acceptance.number
+    books_held(settings, books).ok_or(Refusal::UnsoundBooks)
 }
 
 // Balances plus waiting deposits.

@@ -1,10 +1,10 @@
 // One pass that joins the bits of all validators, so that the machine takes several at once. Where they are small, all
 // tests pass; where they are not, it tells nothing.
-ghost use Rattle.std.specs.Prelude.{◌≡◌, ℕ, ◌^◌, ◌<◌, ◌≤◌, List};
+ghost use Rattle.std.specs.Prelude.{IfSome, Some, ◌≡◌, ℕ, ◌^◌, ◌<◌, ◌≤◌, List};
 ghost use Rattle.tables.specs.Rows.{rows};
 ghost use Rattle.rules.specs.Types as rule;
 ghost use Rattle.records.specs.Layout.{validator_at, validators_fit};
-ghost use Rattle.acceptance.specs.Tests.{validator_within, tested_sum};
+ghost use Rattle.acceptance.specs.Tests.{validator_within, tested_sum, bounded};
 ghost use Rattle.acceptance.specs.Quick.{Within};
 
 use primitives::{BOUND, Gwei, ValidatorIndex};
@@ -32,36 +32,34 @@ fn validator_bits(most: Gwei, validators: &[u64], i: ValidatorIndex) -> u64
     effective_balance.0 | left | eligibility | activation | exit | withdrawable
 }
 
-// The sum of the first n balances where all are small; else BOUND + 1.
-pub fn small_sum(most: Gwei, validators: &[u64], n: usize) -> Gwei
+// The sum of the first n balances where all are small; else none.
+pub fn small_sum(most: Gwei, validators: &[u64], n: usize) -> Option<Gwei>
     requires { (n ≤ validators_fit validators.now) × (n ≤ 2 ^ 16) }
-    ensures { result.0 ≤ rule.BOUND
-        → (ids : List ℕ)
-        → result.0
-        ≡ tested_sum (validator_within most.0) (λ v. v.balance) 0
-        (rows n (validator_at ids validators.now)) }
+    ensures { IfSome result (λ sum.
+        (ids : List ℕ)
+        → Some sum
+        ≡ bounded (tested_sum (validator_within most.0) (λ v. v.balance) 0
+        (rows n (validator_at ids validators.now)))) }
 {
-    let mut flags: u64 = 0;
-    let mut bits: u64 = 0;
-    let mut balances: u64 = 0;
-    let mut sum: u64 = 0;
-    let mut i = 0;
-    while i < n {
+    let mut flags = 0;
+    let mut bits = 0;
+    let mut balances = 0;
+    let mut sum = 0;
+    for i in 0..n {
         let balance = registry::balance_at(validators, ValidatorIndex(i));
-        flags = flags | registry::slashed_at(validators, ValidatorIndex(i));
-        bits = bits | validator_bits(most, validators, ValidatorIndex(i));
-        balances = balances | balance.0;
-        sum = sum + balance.0 % SMALL;
-        i += 1;
+        flags |= registry::slashed_at(validators, ValidatorIndex(i));
+        bits |= validator_bits(most, validators, ValidatorIndex(i));
+        balances |= balance.0;
+        sum += balance.0 % SMALL;
     }
     if flags > 1 {
-        return Gwei(BOUND + 1);
+        return None;
     }
     if bits > BOUND {
-        return Gwei(BOUND + 1);
+        return None;
     }
     if balances >= SMALL {
-        return Gwei(BOUND + 1);
+        return None;
     }
-    Gwei(sum)
+    Some(Gwei(sum))
 }

@@ -3,28 +3,19 @@
 
 #![tactic(auto)]
 
-ghost use Rattle.std.specs.Prelude.{◌≡◌, length};
-
 use full_reads::read_file;
 use std::io;
 
 // One byte more than a file may have, so that a longer one shows.
-fn file_buffer() -> [u8; 65537]
-    ensures { 65537 ≡ length result }
-{
-    [0; 65537]
-}
+const FILE: usize = 65537;
 
-fn output_buffer() -> [u8; 319991]
-    ensures { 319991 ≡ length result }
-{
-    [0; 319991]
-}
+// The header, and a line for each of 9,999 calls.
+const OUTPUT: usize = 319991;
 
 fn main(rt: HostRuntime) -> io::Result<()> {
-    let mut opening = file_buffer();
-    let mut calls = file_buffer();
-    let mut out = output_buffer();
+    let mut opening = [0; FILE];
+    let mut calls = [0; FILE];
+    let mut out = [0; OUTPUT];
     let n = read_file(&rt, "opening.w", &mut opening)?;
     let m = read_file(&rt, "calls.w", &mut calls)?;
     let k = books_output::books_output(&opening[..n], &calls[..m], &mut out);

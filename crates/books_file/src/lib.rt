@@ -12,7 +12,7 @@ ghost use Rattle.file_format.specs.Places.{list_end, listed_ok};
 ghost use Rattle.file_format.specs.Places.{deposits_place, partials_place, consolidations_place, end_place};
 ghost use Rattle.books_file.specs.Laws.{numbers_listed};
 
-use file_words::{both, count_at, count_ok, end_ok, field_ok, flag_ok, numbers_ok, word_at};
+use file_words::{count_at, count_ok, end_ok, field_ok, flag_ok, numbers_ok, word_at};
 
 // ---- validators
 
@@ -24,7 +24,7 @@ fn validator_ok(file: &[u8], k: usize) -> bool
     let credentials = field_ok(file, k + 16, 32);
     let slashed = flag_ok(file, k + 27);
     let numbers = numbers_ok(file, k + 28, 6);
-    both(key, both(credentials, both(slashed, numbers)))
+    key & credentials & slashed & numbers
 }
 
 // n validators.
@@ -32,14 +32,7 @@ fn validators_ok(file: &[u8], k: usize, n: usize) -> bool
     requires { k + n * 46 ≤ 2 ^ 39 }
     ensures { result ≡ (many validator n).ok (drop k (words file.now)) }
 {
-    let mut i: usize = 0;
-    while i < n {
-        if !validator_ok(file, k + i * 46) {
-            return false;
-        }
-        i += 1;
-    }
-    true
+    (0..n).all(|i| validator_ok(file, k + i * 46))
 }
 
 // ---- counted lists, the count at word p
@@ -60,14 +53,14 @@ fn numbers_list_ok(file: &[u8], p: usize, m: usize) -> bool
     ensures { result ≡ numbers_listed (words file.now) p m }
 {
     let n = count_at(file, p) * m;
-    both(count_ok(file, p), numbers_ok(file, p + 1, n))
+    count_ok(file, p) & numbers_ok(file, p + 1, n)
 }
 
 fn validators_list_ok(file: &[u8]) -> bool
     ensures { result ≡ listed_ok validator 85 (words file.now) }
 {
     let n = count_at(file, 85);
-    both(count_ok(file, 85), validators_ok(file, 86, n))
+    count_ok(file, 85) & validators_ok(file, 86, n)
 }
 
 // ---- places: the counts of deposits, partials and consolidations, and the end word
@@ -111,13 +104,7 @@ fn books_ok(file: &[u8]) -> bool
     let deposits = numbers_list_ok(file, deposits_place(file), 2);
     let partials = numbers_list_ok(file, partials_place(file), 3);
     let consolidations = numbers_list_ok(file, consolidations_place(file), 2);
-    both(
-        head,
-        both(
-            numbers,
-            both(validators, both(deposits, both(partials, consolidations))),
-        ),
-    )
+    head & numbers & validators & deposits & partials & consolidations
 }
 
 // Whether these bytes are a books file; where they are not, the answer is 60.
@@ -125,5 +112,5 @@ pub fn books_file_ok(file: &[u8]) -> bool
     ensures { result ≡ file_ok books_format file.now }
 {
     let whole = file.len() % 4 == 0;
-    both(whole, both(books_ok(file), end_ok(file, end_place(file))))
+    whole & books_ok(file) & end_ok(file, end_place(file))
 }

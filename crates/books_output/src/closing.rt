@@ -5,6 +5,7 @@ ghost use Rattle.books_output.specs.Closing.{ClosingWritten};
 use crate::{buffers, files};
 use file_stores::Written;
 use primitives::answers;
+use records::books::Books;
 
 // The closing books as a file, put at the start of a lent buffer. The second and the third promise follow from the
 // first, and say that the file's part of the buffer is there.
@@ -14,12 +15,12 @@ pub fn closing_file(opening: &[u8], calls: &[u8], out: &mut [u8]) -> Written
     ensures within { result.length ≤ length out.new }
     ensures whole { result.length ≡ length (take result.length out.new) }
 {
-    let mut identities = buffers::identities();
-    let mut validators = buffers::validators();
-    let mut deposits = buffers::deposits();
-    let mut partials = buffers::partials();
-    let mut consolidations = buffers::consolidations();
-    let mut results = buffers::results();
+    let mut identities: buffers::Identities = buffers::blank(0);
+    let mut validators: buffers::Validators = buffers::blank(0);
+    let mut deposits: buffers::Deposits = buffers::blank(0);
+    let mut partials: buffers::Partials = buffers::blank(0);
+    let mut consolidations: buffers::Consolidations = buffers::blank(0);
+    let mut results: buffers::Results = buffers::blank(0);
     let closing = files::carry_out_files(
         opening,
         calls,
@@ -36,14 +37,22 @@ pub fn closing_file(opening: &[u8], calls: &[u8], out: &mut [u8]) -> Written
             length: 0,
         };
     }
-    books_writer::write_books(
-        closing.settings,
-        closing.scalars,
-        &identities,
-        &validators,
-        &deposits,
-        &partials,
-        &consolidations,
-        out,
-    )
+    let books = Books {
+        scalars: closing.scalars,
+        identities: &identities,
+        validators: &validators,
+        deposits: &deposits,
+        partials: &partials,
+        consolidations: &consolidations,
+    };
+    match books_writer::write_books(closing.settings, &books, out) {
+        Ok(length) => Written {
+            number: answers::DONE,
+            length,
+        },
+        Err(refusal) => Written {
+            number: refusal.number(),
+            length: 0,
+        },
+    }
 }

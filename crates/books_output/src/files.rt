@@ -5,7 +5,8 @@ ghost use Rattle.books_output.specs.Files.{program_room, files};
 ghost use Rattle.books_output.specs.Carried.{OpeningRead, CarriedFiles};
 
 use books_reader::Opened;
-use primitives::{Scalars, Settings, answers};
+use primitives::answers::{self, Refusal};
+use primitives::{Scalars, Settings};
 
 // A longer file is not read.
 const MOST_BYTES: usize = 65536;
@@ -35,7 +36,7 @@ fn open(
         partials.new consolidations.new) result }
 {
     if file.len() > MOST_BYTES {
-        return books_reader::refused(answers::BROKEN_FILE);
+        return books_reader::refused(Refusal::BrokenFile.number());
     }
     books_reader::read_books(
         file,
@@ -90,7 +91,7 @@ pub fn carry_out_files(
         return refused(opened.number, settings, scalars);
     }
     if calls.len() > MOST_BYTES {
-        return refused(answers::BROKEN_FILE, settings, scalars);
+        return refused(Refusal::BrokenFile.number(), settings, scalars);
     }
     let carried = runs::carry_out(
         settings,

@@ -24,12 +24,12 @@ pub fn books_output(opening: &[u8], calls: &[u8], out: &mut [u8]) -> usize
     if out.len() < MOST_PRINTED {
         return 0;
     }
-    let mut identities = buffers::identities();
-    let mut validators = buffers::validators();
-    let mut deposits = buffers::deposits();
-    let mut partials = buffers::partials();
-    let mut consolidations = buffers::consolidations();
-    let mut results = buffers::results();
+    let mut identities: buffers::Identities = buffers::blank(0);
+    let mut validators: buffers::Validators = buffers::blank(0);
+    let mut deposits: buffers::Deposits = buffers::blank(0);
+    let mut partials: buffers::Partials = buffers::blank(0);
+    let mut consolidations: buffers::Consolidations = buffers::blank(0);
+    let mut results: buffers::Results = buffers::blank(0);
     let closing = files::carry_out_files(
         opening,
         calls,

@@ -88,7 +88,7 @@ pub record Opens (bs : List ℕ) (r : Room) : Type 0 where
   pub good : file_ok books_format bs ≡ true
   pub accepted : Accepted (settings_at (words bs)) (books_at (words bs)) r
 
-pub opens : (bs : List ℕ) (r : Room) → read_answer r bs ≡ 0 → Opens bs r
+opens : (bs : List ℕ) (r : Room) → read_answer r bs ≡ 0 → Opens bs r
 opens bs r e = go (file_ok books_format bs) refl
   where
     go : (t : Bool) → file_ok books_format bs ≡ t → Opens bs r
@@ -99,7 +99,7 @@ opens bs r e = go (file_ok books_format bs) refl
     go false f = let z : ⊥ = omega (arith, broken_refused bs r f, e) in absurd z
 
 -- the tables have room for the file's records
-pub room_there : (bs : List ℕ) (t : Tables) {s : Scalars} → Opens bs (room_of t) → s ≡ scalars_at (words bs)
+room_there : (bs : List ℕ) (t : Tables) {s : Scalars} → Opens bs (room_of t) → s ≡ scalars_at (words bs)
     → Fits s t
 room_there bs t {s} o e =
     let ws = words bs in
@@ -118,6 +118,14 @@ room_there bs t {s} o e =
       partials = omega (arith, k.partials, b.partials_fit, p);
       consolidations = omega (arith, k.consolidations, b.consolidations_fit, c);
     }
+
+-- what the reader's number 0 gives
+pub opened_good : (bs : List ℕ) (r : Room) {n : ℕ} → n ≡ read_answer r bs → n ≡ 0 → Good (words bs)
+opened_good bs r e z = file_good bs (opens bs r (sym e ∙ z)).good
+
+pub opened_fits : (bs : List ℕ) (t : Tables) {n : ℕ} {s : Scalars} → n ≡ read_answer (room_of t) bs → n ≡ 0
+    → s ≡ scalars_at (words bs) → Fits s t
+opened_fits bs t e z s = room_there bs t (opens bs (room_of t) (sym e ∙ z)) s
 
 -- ---- the promise
 

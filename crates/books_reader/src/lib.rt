@@ -5,6 +5,7 @@
 
 ghost use Rattle.std.specs.Prelude.{◌≡◌};
 ghost use Rattle.file_format.specs.Answers.{read_answer};
+ghost use Rattle.primitives.specs.Answers.{answer_number};
 ghost use Rattle.records.specs.Books.{tables, room_of};
 ghost use Rattle.books_reader.specs.Read.{blank_settings, blank_scalars, blank, BooksRead};
 
@@ -12,7 +13,9 @@ use acceptance::{enough_room, settings_sound};
 use books_file::books_file_ok;
 use file_acceptance::file_books_sound;
 use file_records::{scalars_at, settings_at};
-use primitives::{Epoch, Gwei, Scalars, Settings, ValidatorIndex, WithdrawalIndex, answers};
+use primitives::answers::{self, Refusal};
+use primitives::{Epoch, Gwei, Scalars, Settings, ValidatorIndex, WithdrawalIndex};
+use records::books::Books;
 use table_stores::store_books;
 
 // What the reader answers: the number of its cause, and the settings and scalars of the books that it opened; blank
@@ -94,34 +97,36 @@ fn judged(
     deposits: &[u64],
     partials: &[u64],
     consolidations: &[u64],
-) -> u8
-    ensures { result
+) -> Result<(), Refusal>
+    ensures { answer_number result
         ≡ read_answer
         (room_of (tables identities.now validators.now deposits.now
         partials.now consolidations.now))
         file.now }
 {
     if !books_file_ok(file) {
-        return answers::BROKEN_FILE;
+        return Err(Refusal::BrokenFile);
     }
     let settings = settings_at(file);
     if !settings_sound(settings) {
-        return answers::UNSOUND_SETTINGS;
+        return Err(Refusal::UnsoundSettings);
     }
-    if !enough_room(
-        settings,
+    let scalars = scalars_at(file);
+    let books = Books {
+        scalars,
         identities,
         validators,
         deposits,
         partials,
         consolidations,
-    ) {
-        return answers::SHORT_BUFFER;
+    };
+    if !enough_room(settings, &books) {
+        return Err(Refusal::ShortBuffer);
     }
-    if !file_books_sound(settings, scalars_at(file), file) {
-        return answers::UNSOUND_BOOKS;
+    if !file_books_sound(settings, scalars, file) {
+        return Err(Refusal::UnsoundBooks);
     }
-    answers::DONE
+    Ok(())
 }
 
 // ---- the reader
@@ -140,7 +145,7 @@ pub fn read_books(
         (tables identities.new validators.new deposits.new
         partials.new consolidations.new) result }
 {
-    let number = judged(
+    let judged = judged(
         file,
         identities,
         validators,
@@ -148,8 +153,8 @@ pub fn read_books(
         partials,
         consolidations,
     );
-    if number != answers::DONE {
-        return refused(number);
+    if let Err(refusal) = judged {
+        return refused(refusal.number());
     }
     let settings = settings_at(file);
     let scalars = scalars_at(file);
@@ -163,7 +168,7 @@ pub fn read_books(
         consolidations,
     );
     Opened {
-        number,
+        number: answers::DONE,
         settings,
         scalars,
     }

@@ -22,10 +22,10 @@ use Rattle.file_format.proofs.Theorems.{accepted_read_written}
 use Rattle.file_format.specs.Answers.{write_answer, over}
 use Rattle.file_format.specs.PutLaws.{put}
 use Rattle.file_stores.specs.Laws.{put_next, put_length, put_closed, put_over}
+use Rattle.file_records.specs.Sizes.{deposit_length, partial_length, consolidation_length}
 use Rattle.books_writer.specs.Parts.{front_words, front_length, lists_words, written_parts}
 use Rattle.books_writer.specs.Written.{BooksWritten, file_length, Ready}
-use Rattle.books_writer.specs.Lists.{validator_at_length, deposit_length, partial_length, consolidation_length}
-use Rattle.books_writer.specs.Lists.{list_length}
+use Rattle.books_writer.specs.Lists.{validator_at_length, list_length}
 use Rattle.books_writer.specs.Sized.{tables_sized}
 
 -- ---- the file

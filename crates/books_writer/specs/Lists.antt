@@ -1,7 +1,7 @@
 -- Records and counted lists: how many words they have, and their words put one behind another.
 use Rattle.std.specs.Prelude.{◌≡◌, true, List, [], ◌∷◌, ◌++◌, ℕ, ◌+◌, ◌*◌, ◌≤◌, ◌<◌, length}
 use Rattle.std.proofs.Math.Path.{refl, ap}
-use Rattle.std.proofs.Common.{sym, ◌∙◌, append-nil, length-append, leb-true}
+use Rattle.std.proofs.Common.{sym, ◌∙◌, length-append, leb-true}
 use native.Mathlib.Omega.{arith}
 use Rattle.lists.specs.Base.{every}
 use Rattle.tables.specs.Rows.{rows, length_rows}
@@ -15,10 +15,10 @@ use Rattle.records.specs.declared.validator.Validator.{Validator}
 use Rattle.records.specs.Plain.{plain_validator}
 use Rattle.file_format.specs.Words.{word}
 use Rattle.file_format.specs.Fields.{Format, number, flag, field, field_words, each, many}
-use Rattle.file_format.specs.Books.{validator, validator_parts, deposit, partial, consolidation, list_of}
+use Rattle.file_format.specs.Books.{validator, validator_parts, list_of}
 use Rattle.file_format.proofs.AccessLaws.{field_length}
 use Rattle.file_format.specs.PutLaws.{put}
-use Rattle.file_stores.specs.Laws.{put_none, put_next, put_length, put_row, each_length, number_length}
+use Rattle.file_stores.specs.Laws.{put_none, put_next, put_length, put_row, each_length}
 
 -- ---- how many words a record has
 
@@ -43,18 +43,6 @@ pub validator_at_length : (ids ws : List ℕ) (i : ℕ) → i < identities_fit i
     → length (validator.write (validator_at ids ws i)) ≡ 46
 validator_at_length ids ws i h =
     validator_length (validator_at ids ws i) (key_length ids i h) (credentials_length ids i h)
-
-pub deposit_length : (d : rule.PendingBalanceDeposit) → length (deposit.write d) ≡ 6
-unfolding deposit many number
-deposit_length d = refl
-
-pub partial_length : (p : rule.PendingPartialWithdrawal) → length (partial.write p) ≡ 9
-unfolding partial many number
-partial_length p = refl
-
-pub consolidation_length : (c : rule.PendingConsolidation) → length (consolidation.write c) ≡ 6
-unfolding consolidation many number
-consolidation_length c = refl
 
 -- ---- one record put
 
@@ -92,49 +80,6 @@ validator_put out o₁ o₂ o₃ o₄ k v p q h e₁ e₂ e₃ e₄ =
     let f₂ =
     put_next o₁ o₂ o₄ (k + 16) (k + 27) credentials (slashed ++ numbers) e₂ f₃ (omega arith) (omega arith) in
     put_next out o₁ o₄ k (k + 16) key (credentials ++ (slashed ++ numbers)) e₁ f₂ (omega arith) (omega arith)
-
--- numbers one behind another
-pub two_put : (out o₁ o₂ : List ℕ) (k a b : ℕ) → (k + 6) * 4 ≤ length out
-    → o₁ ≡ put out k (number.write a) → o₂ ≡ put o₁ (k + 3) (number.write b)
-    → o₂ ≡ put out k (each number.write (a ∷ b ∷ []))
-two_put out o₁ o₂ k a b h e f =
-    let p = number_length a in
-    let q = number_length b in
-    put_next out o₁ o₂ k (k + 3) (number.write a) (number.write b) e f (omega arith) (omega arith)
-    ∙ ap (λ ws. put out k (number.write a ++ ws)) (sym (append-nil (number.write b)))
-
-pub three_put : (out o₁ o₂ o₃ : List ℕ) (k a b c : ℕ) → (k + 9) * 4 ≤ length out
-    → o₁ ≡ put out k (number.write a) → o₂ ≡ put o₁ (k + 3) (number.write b) → o₃ ≡ put o₂ (k + 6) (number.write c)
-    → o₃ ≡ put out k (each number.write (a ∷ b ∷ c ∷ []))
-three_put out o₁ o₂ o₃ k a b c h e f g =
-    let p = number_length a in
-    let q = number_length b in
-    let r = number_length c in
-    let s : k + 3 + 3 ≡ k + 6 = omega arith in
-    let l : length o₁ ≡ length out = put_length out o₁ k (number.write a) e (omega arith) in
-    let t = two_put o₁ o₂ o₃ (k + 3) b c (omega arith) f (rw s g) in
-    put_next out o₁ o₃ k (k + 3) (number.write a) (each number.write (b ∷ c ∷ [])) e t (omega arith)
-    (omega (arith, length-append (number.write b) (number.write c ++ []), length-append (number.write c) []))
-
-pub deposit_put : (out o₁ o₂ : List ℕ) (k : ℕ) (d : rule.PendingBalanceDeposit) → (k + 6) * 4 ≤ length out
-    → o₁ ≡ put out k (number.write d.index) → o₂ ≡ put o₁ (k + 3) (number.write d.amount)
-    → o₂ ≡ put out k (deposit.write d)
-unfolding deposit many
-deposit_put out o₁ o₂ k d h e f = two_put out o₁ o₂ k d.index d.amount h e f
-
-pub partial_put : (out o₁ o₂ o₃ : List ℕ) (k : ℕ) (p : rule.PendingPartialWithdrawal) → (k + 9) * 4 ≤ length out
-    → o₁ ≡ put out k (number.write p.index) → o₂ ≡ put o₁ (k + 3) (number.write p.amount)
-    → o₃ ≡ put o₂ (k + 6) (number.write p.withdrawable_epoch)
-    → o₃ ≡ put out k (partial.write p)
-unfolding partial many
-partial_put out o₁ o₂ o₃ k p h e f g =
-    three_put out o₁ o₂ o₃ k p.index p.amount p.withdrawable_epoch h e f g
-
-pub consolidation_put : (out o₁ o₂ : List ℕ) (k : ℕ) (c : rule.PendingConsolidation) → (k + 6) * 4 ≤ length out
-    → o₁ ≡ put out k (number.write c.source_index) → o₂ ≡ put o₁ (k + 3) (number.write c.target_index)
-    → o₂ ≡ put out k (consolidation.write c)
-unfolding consolidation many
-consolidation_put out o₁ o₂ k c h e f = two_put out o₁ o₂ k c.source_index c.target_index h e f
 
 -- ---- a counted list
 

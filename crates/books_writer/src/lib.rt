@@ -5,15 +5,20 @@
 pub mod counted; // the four counted lists
 pub mod front; // the head, the settings and the scalars
 
-ghost use Rattle.std.specs.Prelude.{◌≡◌, ◌≤◌, length};
+ghost use Rattle.std.specs.Prelude.{◌≡◌, ◌≤◌, length, true, ◌^◌, ◌<◌};
+ghost use Rattle.lists.specs.Base.{every};
+ghost use Rattle.file_format.specs.Words.{is_byte};
+ghost use Rattle.primitives.specs.Answers.{answer_number, answer_or};
 ghost use Rattle.primitives.specs.Settings.{settings_of};
-ghost use Rattle.records.specs.Books.{tables, books_of};
+ghost use Rattle.records.specs.Lent.{lent_tables, plain_books};
 ghost use Rattle.file_format.specs.Answers.{over};
 ghost use Rattle.file_format.specs.File.{write_books};
 ghost use Rattle.books_writer.specs.Written.{file_length, Ready, BooksWritten};
 
-use file_stores::Written;
-use primitives::{Scalars, Settings, answers};
+use primitives::answers::Refusal;
+use primitives::{Scalars, Settings};
+use records::books::Books;
+use records::queues::{PendingBalanceDeposit, PendingConsolidation, PendingPartialWithdrawal};
 
 // 90 words and those of the records: 46 a validator, 6 a deposit, 9 a partial withdrawal, 6 a consolidation.
 fn file_length(scalars: Scalars) -> usize
@@ -31,94 +36,53 @@ fn file_length(scalars: Scalars) -> usize
 }
 
 // The file, into a buffer that has room for it.
-fn put_books(
-    settings: Settings,
-    scalars: Scalars,
-    identities: &[u8],
-    validators: &[u64],
-    deposits: &[u64],
-    partials: &[u64],
-    consolidations: &[u64],
-    out: &mut [u8],
-)
-    requires ready { Ready scalars
-        (tables identities.now validators.now deposits.now partials.now consolidations.now) }
-    requires scalars_in_bounds { file_length scalars ≤ length out.old }
-    ensures { out.new
-        ≡ over
-        (write_books (settings_of settings)
-        (books_of scalars
-        (tables identities.now validators.now deposits.now
-        partials.now consolidations.now)))
-        out.old }
+fn put_books(settings: Settings, books: &Books<'_>, out: &mut [u8])
+    requires ready { Ready books.now.scalars (lent_tables books.now) }
+    requires scalars_in_bounds { file_length books.now.scalars ≤ length out.old }
+    ensures file { out.new ≡ over (write_books (settings_of settings) (plain_books books.now)) out.old }
+    ensures bytes { every is_byte books.now.identities.now ≡ true }
+    ensures start { books.now.scalars.deposit_receipts_start_index < 2 ^ 64 }
 {
+    let scalars = books.scalars;
     let deposits_place = 86 + scalars.validators * 46;
     let partials_place = deposits_place + 1 + scalars.deposits * 6;
     let consolidations_place = partials_place + 1 + scalars.partials * 9;
     let end_place = consolidations_place + 1 + scalars.consolidations * 6;
+    let deposits = books.deposits;
     front::put_front(out, settings, scalars);
-    counted::put_validators(out, 85, identities, validators, scalars.validators);
-    counted::put_deposits(out, deposits_place, deposits, scalars.deposits);
-    counted::put_partials(out, partials_place, partials, scalars.partials);
-    counted::put_consolidations(
+    counted::put_validators(
+        out,
+        85,
+        books.identities,
+        books.validators,
+        scalars.validators,
+    );
+    counted::put_records::<PendingBalanceDeposit>(out, deposits_place, deposits, scalars.deposits);
+    counted::put_records::<PendingPartialWithdrawal>(
+        out,
+        partials_place,
+        books.partials,
+        scalars.partials,
+    );
+    counted::put_records::<PendingConsolidation>(
         out,
         consolidations_place,
-        consolidations,
+        books.consolidations,
         scalars.consolidations,
     );
     file_stores::put_end(out, end_place);
 }
 
-// 1, 3, 2, then 61 where the file is longer than the buffer.
-pub fn write_books(
-    settings: Settings,
-    scalars: Scalars,
-    identities: &[u8],
-    validators: &[u64],
-    deposits: &[u64],
-    partials: &[u64],
-    consolidations: &[u64],
-    out: &mut [u8],
-) -> Written
-    ensures { BooksWritten (settings_of settings) scalars
-        (tables identities.now validators.now deposits.now
-        partials.now consolidations.now)
-        out.old out.new result.number result.length }
+// How many bytes the file has; refused with 1, 3, 2, then 61 where the file is longer than the buffer.
+pub fn write_books(settings: Settings, books: &Books<'_>, out: &mut [u8]) -> Result<usize, Refusal>
+    ensures { BooksWritten (settings_of settings) books.now.scalars (lent_tables books.now)
+        out.old out.new (answer_number result) (answer_or 0 result) }
 {
-    let handed = acceptance::handed(
-        settings,
-        scalars,
-        identities,
-        validators,
-        deposits,
-        partials,
-        consolidations,
-    );
-    if handed != answers::DONE {
-        return Written {
-            number: handed,
-            length: 0,
-        };
-    }
-    let length = file_length(scalars);
+    acceptance::accept(settings, books)?;
+    let length = file_length(books.scalars);
     if out.len() < length {
-        return Written {
-            number: answers::WRITER_BUFFER_SHORT,
-            length: 0,
-        };
+        return Err(Refusal::WriterBufferShort);
     }
-    put_books(
-        settings,
-        scalars,
-        identities,
-        validators,
-        deposits,
-        partials,
-        consolidations,
-        out,
-    );
-    Written {
-        number: answers::DONE,
-        length,
-    }
+    put_books(settings, books, out);
+    Ok(length)
 }

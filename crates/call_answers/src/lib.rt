@@ -3,23 +3,24 @@
 
 #![tactic(auto)]
 
+ghost use Rattle.primitives.specs.Answers.{answer_number};
 ghost use Rattle.std.specs.Prelude.{◌≡◌};
 ghost use Rattle.result_sizes.specs.Size.{size_number};
 
-use primitives::answers;
+use primitives::answers::Refusal;
 
 // The answer by what the three tests of a result's size said, in their order.
-pub fn size_number(limits: bool, sums: bool, epochs: bool) -> u8
-    ensures { result ≡ size_number limits sums epochs }
+pub fn size_number(limits: bool, sums: bool, epochs: bool) -> Result<(), Refusal>
+    ensures { answer_number result ≡ size_number limits sums epochs }
 {
     if !limits {
-        return answers::RESULT_OVER_LIMIT;
+        return Err(Refusal::ResultOverLimit);
     }
     if !sums {
-        return answers::RESULT_SUMS_OVER_BOUND;
+        return Err(Refusal::ResultSumsOverBound);
     }
     if !epochs {
-        return answers::RESULT_EPOCH_OVER_BOUND;
+        return Err(Refusal::ResultEpochOverBound);
     }
-    answers::DONE
+    Ok(())
 }

@@ -15,11 +15,12 @@ ghost use Rattle.file_format.specs.File.{file_ok};
 ghost use Rattle.file_format.specs.Places.{count_at};
 ghost use Rattle.calls_reader.specs.Widths.{fields_width, code_at};
 ghost use Rattle.calls_reader.specs.Laws.{fields_ok, calls_end_ok};
+ghost use Rattle.calls_reader.specs.Plain.{kind_code, plain_call, BlankBehind};
 
 use expected_withdrawals::{ExpectedWithdrawals, Withdrawal};
-use file_bytes::{address_at, credentials_at, key_at};
+use file_bytes::field_at;
 use file_words::{
-    both, count_at, end_ok, field_ok, flag_at, flag_ok, is_word, number_at, number_ok, numbers_ok,
+    count_at, end_ok, field_ok, flag_at, flag_ok, is_word, number_at, number_ok, numbers_ok,
     word_at,
 };
 use primitives::{Epoch, Gwei, ValidatorIndex, WithdrawalIndex};
@@ -34,14 +35,14 @@ fn receipt_ok(file: &[u8], k: usize) -> bool
     let credentials = field_ok(file, k + 16, 32);
     let numbers = numbers_ok(file, k + 27, 2);
     let valid = flag_ok(file, k + 33);
-    both(key, both(credentials, both(numbers, valid)))
+    key & credentials & numbers & valid
 }
 
 fn exit_ok(file: &[u8], k: usize) -> bool
     requires { k ≤ 2 ^ 39 }
     ensures { result ≡ exit_fields.ok (drop k (words file.now)) }
 {
-    both(numbers_ok(file, k, 2), flag_ok(file, k + 6))
+    numbers_ok(file, k, 2) & flag_ok(file, k + 6)
 }
 
 fn request_ok(file: &[u8], k: usize) -> bool
@@ -50,14 +51,14 @@ fn request_ok(file: &[u8], k: usize) -> bool
 {
     let address = field_ok(file, k, 20);
     let key = field_ok(file, k + 7, 48);
-    both(address, both(key, number_ok(file, k + 23)))
+    address & key & number_ok(file, k + 23)
 }
 
 fn consolidation_ok(file: &[u8], k: usize) -> bool
     requires { k ≤ 2 ^ 39 }
     ensures { result ≡ consolidation_fields.ok (drop k (words file.now)) }
 {
-    both(numbers_ok(file, k, 3), flag_ok(file, k + 9))
+    numbers_ok(file, k, 3) & flag_ok(file, k + 9)
 }
 
 fn withdrawal_ok(file: &[u8], k: usize) -> bool
@@ -66,7 +67,7 @@ fn withdrawal_ok(file: &[u8], k: usize) -> bool
 {
     let numbers = numbers_ok(file, k, 2);
     let address = field_ok(file, k + 6, 20);
-    both(numbers, both(address, number_ok(file, k + 13)))
+    numbers & address & number_ok(file, k + 13)
 }
 
 // n withdrawals.
@@ -74,14 +75,7 @@ fn withdrawal_list_ok(file: &[u8], k: usize, n: usize) -> bool
     requires { k + n * 16 ≤ 2 ^ 39 }
     ensures { result ≡ (many withdrawal n).ok (drop k (words file.now)) }
 {
-    let mut i: usize = 0;
-    while i < n {
-        if !withdrawal_ok(file, k + i * 16) {
-            return false;
-        }
-        i += 1;
-    }
-    true
+    (0..n).all(|i| withdrawal_ok(file, k + i * 16))
 }
 
 // A count to 16, and as many withdrawals.
@@ -91,7 +85,7 @@ fn withdrawals_ok(file: &[u8], k: usize) -> bool
 {
     let count = is_word(2, 17, word_at(file, k));
     let n = count_at(file, k);
-    both(count, withdrawal_list_ok(file, k + 1, n))
+    count & withdrawal_list_ok(file, k + 1, n)
 }
 
 fn fields_ok(file: &[u8], k: usize, code: u32) -> bool
@@ -119,6 +113,35 @@ pub fn code_at(file: &[u8], k: usize) -> u32
     word_at(file, k) % 0x1000_0000
 }
 
+// Which call it is.
+#[derive(Clone, Copy)]
+pub enum Kind {
+    Reward,
+    Penalty,
+    DepositReceipt,
+    VoluntaryExit,
+    WithdrawalRequest,
+    Consolidation,
+    Turn,
+    Withdrawals,
+}
+
+pub fn kind_at(file: &[u8], k: usize) -> Kind
+    requires { call.ok (drop k (words file.now)) ≡ true }
+    ensures { kind_code result ≡ code_at (words file.now) k }
+{
+    match code_at(file, k) {
+        1 => Kind::Reward,
+        2 => Kind::Penalty,
+        3 => Kind::DepositReceipt,
+        4 => Kind::VoluntaryExit,
+        5 => Kind::WithdrawalRequest,
+        6 => Kind::Consolidation,
+        8 => Kind::Withdrawals,
+        _ => Kind::Turn, // 7, the one code left
+    }
+}
+
 // Whether a call stands there.
 pub fn call_ok(file: &[u8], k: usize) -> bool
     requires { k ≤ 2 ^ 38 }
@@ -126,7 +149,7 @@ pub fn call_ok(file: &[u8], k: usize) -> bool
 {
     let w = word_at(file, k);
     let code = is_word(9, 9, w);
-    both(code, fields_ok(file, k + 1, w % 0x1000_0000))
+    code & fields_ok(file, k + 1, w % 0x1000_0000)
 }
 
 // The words of the fields from word k on.
@@ -171,13 +194,11 @@ fn calls_end_ok(file: &[u8], n: usize) -> bool
     ensures { result ≡ calls_end_ok (words file.now) n 2 }
 {
     let mut k: usize = 2;
-    let mut i: usize = 0;
-    while i < n {
+    for _i in 0..n {
         if !call_ok(file, k) {
             return false;
         }
         k = next_call(file, k);
-        i += 1;
     }
     end_ok(file, k)
 }
@@ -190,7 +211,7 @@ pub fn calls_file_ok(file: &[u8]) -> bool
     let head = word_at(file, 0) == 0x1000_0002;
     let count = is_word(2, 10_000, word_at(file, 1));
     let n = calls_count(file);
-    both(whole, both(head, both(count, calls_end_ok(file, n))))
+    whole & head & count & calls_end_ok(file, n)
 }
 
 // ---- what the call at word k holds, where it was judged good and has the code
@@ -240,6 +261,19 @@ pub struct Withdrawals {
     pub count: usize,
 }
 
+// A call with what it holds. `plain_call` gives the rules' operation of each.
+#[derive(Clone, Copy)]
+pub enum Call {
+    Reward(Amount),
+    Penalty(Amount),
+    DepositReceipt(Receipt),
+    VoluntaryExit(Exit),
+    WithdrawalRequest(Request),
+    Consolidation(Consolidation),
+    Turn,
+    Withdrawals(Withdrawals),
+}
+
 // Codes 1 and 2.
 pub fn amount_at(file: &[u8], k: usize) -> Amount
     requires k_bound { k ≤ 2 ^ 38 }
@@ -264,11 +298,9 @@ pub fn receipt_at(file: &[u8], k: usize) -> Receipt
     ensures { deposit_receipt result.public_key result.withdrawal_credentials result.amount.0 result.index result.valid
         ≡ call.value (drop k (words file.now)) }
 {
-    let public_key = key_at(file, k + 1);
-    let withdrawal_credentials = credentials_at(file, k + 17);
     Receipt {
-        public_key,
-        withdrawal_credentials,
+        public_key: field_at(file, k + 1),
+        withdrawal_credentials: field_at(file, k + 17),
         amount: Gwei(number_at(file, k + 28)),
         index: number_at(file, k + 31),
         valid: flag_at(file, k + 34) == 1,
@@ -297,11 +329,9 @@ pub fn request_at(file: &[u8], k: usize) -> Request
     ensures { withdrawal_request result.source_address result.public_key result.amount.0
         ≡ call.value (drop k (words file.now)) }
 {
-    let source_address = address_at(file, k + 1);
-    let public_key = key_at(file, k + 8);
     Request {
-        source_address,
-        public_key,
+        source_address: field_at(file, k + 1),
+        public_key: field_at(file, k + 8),
         amount: Gwei(number_at(file, k + 24)),
     }
 }
@@ -328,11 +358,10 @@ fn withdrawal_at(file: &[u8], k: usize) -> Withdrawal
     requires well_formed { withdrawal.ok (drop k (words file.now)) ≡ true }
     ensures { result ≡ coded_withdrawal (withdrawal.value (drop k (words file.now))) }
 {
-    let address = address_at(file, k + 6);
     Withdrawal {
         index: WithdrawalIndex(number_at(file, k)),
         validator_index: ValidatorIndex(number_at(file, k + 3) as usize),
-        address,
+        address: field_at(file, k + 6),
         amount: Gwei(number_at(file, k + 13)),
     }
 }
@@ -348,10 +377,27 @@ pub fn withdrawals_at(file: &[u8], k: usize) -> Withdrawals
     let count = count_at(file, k + 1);
     let none = ExpectedWithdrawals::none();
     let mut list = none.list;
-    let mut i: usize = 0;
-    while i < count {
+    for i in 0..count {
         list[i] = withdrawal_at(file, k + 2 + i * 16);
-        i += 1;
     }
     Withdrawals { list, count }
+}
+
+// The call at word k.
+pub fn call_at(file: &[u8], k: usize) -> Call
+    requires k_bound { k ≤ 2 ^ 38 }
+    requires well_formed { call.ok (drop k (words file.now)) ≡ true }
+    ensures operation { plain_call result ≡ call.value (drop k (words file.now)) }
+    ensures blank { BlankBehind result }
+{
+    match kind_at(file, k) {
+        Kind::Reward => Call::Reward(amount_at(file, k)),
+        Kind::Penalty => Call::Penalty(amount_at(file, k)),
+        Kind::DepositReceipt => Call::DepositReceipt(receipt_at(file, k)),
+        Kind::VoluntaryExit => Call::VoluntaryExit(exit_at(file, k)),
+        Kind::WithdrawalRequest => Call::WithdrawalRequest(request_at(file, k)),
+        Kind::Consolidation => Call::Consolidation(consolidation_at(file, k)),
+        Kind::Turn => Call::Turn,
+        Kind::Withdrawals => Call::Withdrawals(withdrawals_at(file, k)),
+    }
 }

@@ -124,19 +124,19 @@ module _ (o : Operation) (size w n : ℕ) (out mid : List ℕ) (p : Opened size 
   call_ready = ready size w out mid (call.write o) (p.room z) f.words e
 
   -- the promise, where the call was stored
-  pub added_done : (last : List ℕ) (m l : ℕ)
-      → (last ≡ closed mid (size / 4 - 1 + w)) × (m ≡ 0) × (l ≡ size + w * 4) → Added o size out last m l
-  added_done last m l c =
+  pub added_done : (last : List ℕ) (l : ℕ) → (last ≡ closed mid (size / 4 - 1 + w)) × (l ≡ size + w * 4)
+      → Added o size out last 0 l
+  added_done last l c =
       let r = p.room z in
       let there = held size out in
       let file = closed_file o size w out mid r f e in
       let more = more_size o size out there r.holds w f r.few in
       record {
-        number = c.1 ∙ sym z ∙ p.number o f;
+        number = sym z ∙ p.number o f;
         done = λ x os h.
             let q : there ≡ os = some_same (sym r.holds.read ∙ h) in (
               c.0 ∙ file ∙ ap (λ xs. over (write_calls (one_more xs o)) out) q,
-              c.2 ∙ sym more ∙ ap (λ xs. length (write_calls (one_more xs o))) q,
+              c.1 ∙ sym more ∙ ap (λ xs. length (write_calls (one_more xs o))) q,
             );
-        refused = λ x. absurd (x c.1);
+        refused = λ x. absurd (x refl);
       }

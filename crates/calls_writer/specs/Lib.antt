@@ -3,6 +3,7 @@ pub mod Known
 pub mod Held
 pub mod Fits
 pub mod Listed
+pub mod Handed
 pub mod Opened
 pub mod Closed
 pub mod Begun

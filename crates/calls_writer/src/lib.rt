@@ -3,45 +3,50 @@
 
 #![tactic(auto)]
 
-ghost use Rattle.std.specs.Prelude.{◌≡◌, [], ◌∷◌, ◌+◌, ◌-◌, ◌*◌, ◌/◌, ◌≤◌, length};
-ghost use Rattle.rules.specs.Calls.{reward, penalty, deposit_receipt, voluntary_exit, withdrawal_request};
-ghost use Rattle.rules.specs.Calls.{consolidation, turn, withdrawals};
+ghost use Rattle.std.specs.Prelude.{◌≡◌, [], ◌∷◌, ◌+◌, ◌-◌, ◌*◌, ◌/◌, ◌≤◌, length, false, MatchOption};
+ghost use Rattle.rules.specs.Calls.{deposit_receipt, voluntary_exit, withdrawal_request};
+ghost use Rattle.rules.specs.Calls.{consolidation, withdrawals};
+ghost use Rattle.primitives.specs.Answers.{answer_number, answer_or};
 ghost use Rattle.expected_withdrawals.specs.Expected.{plain_withdrawal, handed_list};
 ghost use Rattle.file_format.specs.Words.{word};
 ghost use Rattle.file_format.specs.Fields.{each};
 ghost use Rattle.file_format.specs.Calls.{amount_fields, withdrawal, call};
 ghost use Rattle.file_format.specs.PutLaws.{put};
+ghost use Rattle.calls_reader.specs.Plain.{plain_call};
 ghost use Rattle.calls_writer.specs.Added.{Begun, Added};
+ghost use Rattle.calls_writer.specs.Handed.{Few, call_width};
 ghost use Rattle.calls_writer.specs.Listed.{Listed};
 ghost use Rattle.calls_writer.specs.Opened.{Opened};
 ghost use Rattle.calls_writer.specs.Closed.{Ready, closed};
 
-use calls_reader::{calls_count, calls_file_ok};
+use calls_reader::{
+    Amount, Call, Consolidation, Exit, Receipt, Request, Withdrawals, calls_count, calls_file_ok,
+};
 use expected_withdrawals::Withdrawal;
-use file_stores::{Written, put_count, put_end, put_field, put_number, put_signature, put_word};
-use primitives::{Epoch, Gwei, ValidatorIndex, answers};
+use file_stores::{put_count, put_end, put_field, put_number, put_signature, put_word};
+use primitives::answers::Refusal;
 
 // ---- around each call
 
-// The number for a call of so many words.
-fn open(out: &[u8], size: usize, width: usize) -> u8
+// Whether a call of so many words can be added.
+fn open(out: &[u8], size: usize, width: usize) -> Result<(), Refusal>
     requires { width ≤ 258 }
-    ensures { Opened size width out.now result }
+    ensures { Opened size width out.now (answer_number result) }
 {
     if out.len() < size {
-        return answers::BROKEN_FILE;
+        return Err(Refusal::BrokenFile);
     }
     if !calls_file_ok(&out[..size]) {
-        return answers::BROKEN_FILE;
+        return Err(Refusal::BrokenFile);
     }
     let count = calls_count(&out[..size]);
     if count >= 9_999 {
-        return answers::BROKEN_FILE;
+        return Err(Refusal::BrokenFile);
     }
     if out.len() - size < width * 4 {
-        return answers::WRITER_BUFFER_SHORT;
+        return Err(Refusal::WriterBufferShort);
     }
-    answers::DONE
+    Ok(())
 }
 
 // The code, kind 9.
@@ -53,279 +58,97 @@ fn put_code(out: &mut [u8], k: usize, code: u32)
     put_word(out, k, 0x9000_0000 + code);
 }
 
-// The count raised by one, and the end word behind the call's words, which stand where the old end word was.
-fn close(out: &mut [u8], size: usize, width: usize) -> Written
+// The count raised by one, and the end word behind the call's words, which stand where the old end word was. The
+// file's length is answered.
+fn close(out: &mut [u8], size: usize, width: usize) -> usize
     requires { Ready size width out.old }
-    ensures { (out.new ≡ closed out.old (size / 4 - 1 + width))
-        × (result.number ≡ 0)
-        × (result.length ≡ size + width * 4) }
+    ensures { (out.new ≡ closed out.old (size / 4 - 1 + width)) × (result ≡ size + width * 4) }
 {
     let count = calls_count(out);
     put_count(out, 1, count + 1);
     put_end(out, size / 4 - 1 + width);
-    Written {
-        number: answers::DONE,
-        length: size + width * 4,
-    }
+    size + width * 4
 }
 
 // ---- the file of no calls
 
-// 61 where the buffer is shorter than its twelve bytes.
-pub fn new_calls(out: &mut [u8]) -> Written
-    ensures { Begun out.old out.new result.number result.length }
+// Its length; refused with 61 where the buffer is shorter than its twelve bytes.
+pub fn new_calls(out: &mut [u8]) -> Result<usize, Refusal>
+    ensures { Begun out.old out.new (answer_number result) (answer_or 0 result) }
 {
     if out.len() < 12 {
-        return Written {
-            number: answers::WRITER_BUFFER_SHORT,
-            length: 0,
-        };
+        return Err(Refusal::WriterBufferShort);
     }
     put_word(out, 0, 0x1000_0002);
     put_count(out, 1, 0);
     put_end(out, 2);
-    Written {
-        number: answers::DONE,
-        length: 12,
-    }
+    Ok(12)
 }
 
-// ---- reward and penalty, codes 1 and 2
+// ---- what is stored of each call
 
-fn put_amount(out: &mut [u8], k: usize, code: u32, i: ValidatorIndex, amount: Gwei)
+// Codes 1 and 2.
+fn put_amount(out: &mut [u8], k: usize, code: u32, a: Amount)
     requires k_in_bounds { (k + 7) * 4 ≤ length out.old }
     requires code_bound { code ≤ 8 }
-    ensures { out.new ≡ put out.old k (word 9 code ∷ amount_fields.write (i.0, amount.0)) }
+    ensures { out.new ≡ put out.old k (word 9 code ∷ amount_fields.write (a.i.0, a.amount.0)) }
 {
     put_code(out, k, code);
-    put_number(out, k + 1, i.0 as u64);
-    put_number(out, k + 4, amount.0);
+    put_number(out, k + 1, a.i.0 as u64);
+    put_number(out, k + 4, a.amount.0);
 }
 
-pub fn add_reward(out: &mut [u8], size: usize, i: ValidatorIndex, amount: Gwei) -> Written
-    ensures { Added (reward i.0 amount.0) size out.old out.new result.number result.length }
-{
-    let number = open(out, size, 7);
-    if number != answers::DONE {
-        return Written {
-            number,
-            length: size,
-        };
-    }
-    let k = size / 4 - 1;
-    put_amount(out, k, 1, i, amount);
-    close(out, size, 7)
-}
-
-pub fn add_penalty(out: &mut [u8], size: usize, i: ValidatorIndex, amount: Gwei) -> Written
-    ensures { Added (penalty i.0 amount.0) size out.old out.new result.number result.length }
-{
-    let number = open(out, size, 7);
-    if number != answers::DONE {
-        return Written {
-            number,
-            length: size,
-        };
-    }
-    let k = size / 4 - 1;
-    put_amount(out, k, 2, i, amount);
-    close(out, size, 7)
-}
-
-// ---- receipt, code 3
-
-fn put_receipt(
-    out: &mut [u8],
-    k: usize,
-    public_key: [u8; 48],
-    withdrawal_credentials: [u8; 32],
-    amount: Gwei,
-    index: u64,
-    valid: bool,
-)
+// Code 3.
+fn put_receipt(out: &mut [u8], k: usize, r: Receipt)
     requires { (k + 35) * 4 ≤ length out.old }
     ensures { out.new
         ≡ put out.old k
-        (call.write (deposit_receipt public_key withdrawal_credentials amount.0 index valid)) }
+        (call.write (deposit_receipt r.public_key r.withdrawal_credentials r.amount.0 r.index r.valid)) }
 {
     put_code(out, k, 3);
-    put_field(out, k + 1, &public_key);
-    put_field(out, k + 17, &withdrawal_credentials);
-    put_number(out, k + 28, amount.0);
-    put_number(out, k + 31, index);
-    put_signature(out, k + 34, valid);
+    put_field(out, k + 1, &r.public_key);
+    put_field(out, k + 17, &r.withdrawal_credentials);
+    put_number(out, k + 28, r.amount.0);
+    put_number(out, k + 31, r.index);
+    put_signature(out, k + 34, r.valid);
 }
 
-pub fn add_deposit_receipt(
-    out: &mut [u8],
-    size: usize,
-    public_key: [u8; 48],
-    withdrawal_credentials: [u8; 32],
-    amount: Gwei,
-    index: u64,
-    valid: bool,
-) -> Written
-    ensures { Added (deposit_receipt public_key withdrawal_credentials amount.0 index valid) size
-        out.old out.new result.number result.length }
-{
-    let number = open(out, size, 35);
-    if number != answers::DONE {
-        return Written {
-            number,
-            length: size,
-        };
-    }
-    let k = size / 4 - 1;
-    put_receipt(
-        out,
-        k,
-        public_key,
-        withdrawal_credentials,
-        amount,
-        index,
-        valid,
-    );
-    close(out, size, 35)
-}
-
-// ---- exit, code 4
-
-fn put_exit(out: &mut [u8], k: usize, i: ValidatorIndex, epoch: Epoch, valid: bool)
+// Code 4.
+fn put_exit(out: &mut [u8], k: usize, e: Exit)
     requires { (k + 8) * 4 ≤ length out.old }
-    ensures { out.new ≡ put out.old k (call.write (voluntary_exit i.0 epoch.0 valid)) }
+    ensures { out.new ≡ put out.old k (call.write (voluntary_exit e.i.0 e.epoch.0 e.valid)) }
 {
     put_code(out, k, 4);
-    put_number(out, k + 1, i.0 as u64);
-    put_number(out, k + 4, epoch.0);
-    put_signature(out, k + 7, valid);
+    put_number(out, k + 1, e.i.0 as u64);
+    put_number(out, k + 4, e.epoch.0);
+    put_signature(out, k + 7, e.valid);
 }
 
-pub fn add_voluntary_exit(
-    out: &mut [u8],
-    size: usize,
-    i: ValidatorIndex,
-    epoch: Epoch,
-    valid: bool,
-) -> Written
-    ensures { Added (voluntary_exit i.0 epoch.0 valid) size out.old out.new result.number
-        result.length }
-{
-    let number = open(out, size, 8);
-    if number != answers::DONE {
-        return Written {
-            number,
-            length: size,
-        };
-    }
-    let k = size / 4 - 1;
-    put_exit(out, k, i, epoch, valid);
-    close(out, size, 8)
-}
-
-// ---- request, code 5
-
-fn put_request(
-    out: &mut [u8],
-    k: usize,
-    source_address: [u8; 20],
-    public_key: [u8; 48],
-    amount: Gwei,
-)
+// Code 5.
+fn put_request(out: &mut [u8], k: usize, r: Request)
     requires { (k + 27) * 4 ≤ length out.old }
     ensures { out.new
-        ≡ put out.old k (call.write (withdrawal_request source_address public_key amount.0)) }
+        ≡ put out.old k (call.write (withdrawal_request r.source_address r.public_key r.amount.0)) }
 {
     put_code(out, k, 5);
-    put_field(out, k + 1, &source_address);
-    put_field(out, k + 8, &public_key);
-    put_number(out, k + 24, amount.0);
+    put_field(out, k + 1, &r.source_address);
+    put_field(out, k + 8, &r.public_key);
+    put_number(out, k + 24, r.amount.0);
 }
 
-pub fn add_withdrawal_request(
-    out: &mut [u8],
-    size: usize,
-    source_address: [u8; 20],
-    public_key: [u8; 48],
-    amount: Gwei,
-) -> Written
-    ensures { Added (withdrawal_request source_address public_key amount.0) size out.old
-        out.new result.number result.length }
-{
-    let number = open(out, size, 27);
-    if number != answers::DONE {
-        return Written {
-            number,
-            length: size,
-        };
-    }
-    let k = size / 4 - 1;
-    put_request(out, k, source_address, public_key, amount);
-    close(out, size, 27)
-}
-
-// ---- consolidation, code 6
-
-fn put_consolidation(
-    out: &mut [u8],
-    k: usize,
-    source_index: ValidatorIndex,
-    target_index: ValidatorIndex,
-    epoch: Epoch,
-    valid: bool,
-)
+// Code 6.
+fn put_consolidation(out: &mut [u8], k: usize, c: Consolidation)
     requires { (k + 11) * 4 ≤ length out.old }
     ensures { out.new
         ≡ put out.old k
-        (call.write (consolidation source_index.0 target_index.0 epoch.0 valid)) }
+        (call.write (consolidation c.source_index.0 c.target_index.0 c.epoch.0 c.valid)) }
 {
     put_code(out, k, 6);
-    put_number(out, k + 1, source_index.0 as u64);
-    put_number(out, k + 4, target_index.0 as u64);
-    put_number(out, k + 7, epoch.0);
-    put_signature(out, k + 10, valid);
+    put_number(out, k + 1, c.source_index.0 as u64);
+    put_number(out, k + 4, c.target_index.0 as u64);
+    put_number(out, k + 7, c.epoch.0);
+    put_signature(out, k + 10, c.valid);
 }
-
-pub fn add_consolidation(
-    out: &mut [u8],
-    size: usize,
-    source_index: ValidatorIndex,
-    target_index: ValidatorIndex,
-    epoch: Epoch,
-    valid: bool,
-) -> Written
-    ensures { Added (consolidation source_index.0 target_index.0 epoch.0 valid) size out.old
-        out.new result.number result.length }
-{
-    let number = open(out, size, 11);
-    if number != answers::DONE {
-        return Written {
-            number,
-            length: size,
-        };
-    }
-    let k = size / 4 - 1;
-    put_consolidation(out, k, source_index, target_index, epoch, valid);
-    close(out, size, 11)
-}
-
-// ---- the turn, code 7
-
-pub fn add_turn(out: &mut [u8], size: usize) -> Written
-    ensures { Added turn size out.old out.new result.number result.length }
-{
-    let number = open(out, size, 1);
-    if number != answers::DONE {
-        return Written {
-            number,
-            length: size,
-        };
-    }
-    let k = size / 4 - 1;
-    put_code(out, k, 7);
-    close(out, size, 1)
-}
-
-// ---- withdrawals, code 8
 
 fn put_withdrawal(out: &mut [u8], k: usize, w: Withdrawal)
     requires { (k + 16) * 4 ≤ length out.old }
@@ -344,45 +167,68 @@ fn put_list(out: &mut [u8], k: usize, list: [Withdrawal; 16], count: usize)
     requires count_in_bounds { (k + count * 16) * 4 ≤ length out.old }
     ensures { out.new ≡ put out.old k (each withdrawal.write (handed_list list count)) }
 {
-    let mut i: usize = 0;
-    while i < count {
-        let w = list[i];
-        put_withdrawal(out, k + i * 16, w);
-        i += 1;
+    for i in 0..count {
+        put_withdrawal(out, k + i * 16, list[i]);
     }
 }
 
-fn put_withdrawals(out: &mut [u8], k: usize, list: [Withdrawal; 16], count: usize)
-    requires listed { Listed list }
-    requires count_bound { count ≤ 16 }
-    requires count_in_bounds { (k + (2 + count * 16)) * 4 ≤ length out.old }
-    ensures { out.new ≡ put out.old k (call.write (withdrawals (handed_list list count))) }
+// Code 8.
+fn put_withdrawals(out: &mut [u8], k: usize, w: Withdrawals)
+    requires listed { Listed w.list }
+    requires count_bound { w.count ≤ 16 }
+    requires count_in_bounds { (k + (2 + w.count * 16)) * 4 ≤ length out.old }
+    ensures { out.new ≡ put out.old k (call.write (withdrawals (handed_list w.list w.count))) }
 {
     put_code(out, k, 8);
-    put_count(out, k + 1, count);
-    put_list(out, k + 2, list, count);
+    put_count(out, k + 1, w.count);
+    put_list(out, k + 2, w.list, w.count);
 }
 
-// 60 too where the count is above 16.
-pub fn add_withdrawals(out: &mut [u8], size: usize, list: [Withdrawal; 16], count: usize) -> Written
-    ensures { Added (withdrawals (handed_list list count)) size out.old out.new result.number
-        result.length }
+fn put_call(out: &mut [u8], k: usize, c: Call)
+    requires writable { Few c }
+    requires in_bounds { (k + call_width c) * 4 ≤ length out.old }
+    ensures { out.new ≡ put out.old k (call.write (plain_call c)) }
 {
-    if count > 16 {
-        return Written {
-            number: answers::BROKEN_FILE,
-            length: size,
-        };
+    match c {
+        Call::Reward(a) => put_amount(out, k, 1, a),
+        Call::Penalty(a) => put_amount(out, k, 2, a),
+        Call::DepositReceipt(r) => put_receipt(out, k, r),
+        Call::VoluntaryExit(e) => put_exit(out, k, e),
+        Call::WithdrawalRequest(r) => put_request(out, k, r),
+        Call::Consolidation(c) => put_consolidation(out, k, c),
+        Call::Turn => put_code(out, k, 7),
+        Call::Withdrawals(w) => put_withdrawals(out, k, w),
     }
-    let width = 2 + count * 16;
-    let number = open(out, size, width);
-    if number != answers::DONE {
-        return Written {
-            number,
-            length: size,
-        };
+}
+
+// ---- a call added
+
+// How many words it has with its code; none where it lists more than 16 withdrawals.
+fn call_width(c: Call) -> Option<usize>
+    ensures { MatchOption result
+        (call.domain (plain_call c) ≡ false)
+        (λ w. Few c × (w ≡ call_width c)) }
+{
+    match c {
+        Call::Reward(_) | Call::Penalty(_) => Some(7),
+        Call::DepositReceipt(_) => Some(35),
+        Call::VoluntaryExit(_) => Some(8),
+        Call::WithdrawalRequest(_) => Some(27),
+        Call::Consolidation(_) => Some(11),
+        Call::Turn => Some(1),
+        Call::Withdrawals(w) if w.count > 16 => None,
+        Call::Withdrawals(w) => Some(2 + w.count * 16),
     }
-    let k = size / 4 - 1;
-    put_withdrawals(out, k, list, count);
-    close(out, size, width)
+}
+
+// 60 too where the call lists more than 16 withdrawals.
+pub fn add_call(out: &mut [u8], size: usize, call: Call) -> Result<usize, Refusal>
+    ensures { Added (plain_call call) size out.old out.new (answer_number result) (answer_or size result) }
+{
+    let Some(width) = call_width(call) else {
+        return Err(Refusal::BrokenFile);
+    };
+    open(out, size, width)?;
+    put_call(out, size / 4 - 1, call);
+    Ok(close(out, size, width))
 }

@@ -6,7 +6,6 @@
 #![tactic(auto)]
 
 ghost use Rattle.std.specs.Prelude.{◌≡◌, ◌+◌, ◌-◌, ◌*◌, ◌<◌, ◌^◌};
-ghost use Rattle.rules.specs.Helpers.{assign_epoch};
 ghost use Rattle.churn_account.specs.Account.{plain_account, assigned_to};
 ghost use Rattle.churn_account.specs.Parts.{start_account, additional_epochs};
 
@@ -34,24 +33,9 @@ pub struct AssignmentParts {
     pub additional: u64,
 }
 
-// The account where the assignment starts: it starts anew, with a whole churn, where it is behind.
-fn start_account(left: Gwei, earliest: Epoch, activation_exit: Epoch, churn: Gwei) -> ChurnAccount
-    ensures { plain_account result ≡ start_account left.0 earliest.0 activation_exit.0 churn.0 }
-{
-    if earliest.0 < activation_exit.0 {
-        return ChurnAccount {
-            balance_to_consume: churn,
-            earliest_epoch: activation_exit,
-        };
-    }
-    ChurnAccount {
-        balance_to_consume: left,
-        earliest_epoch: earliest,
-    }
-}
-
 // The epochs whose churns pay for what the amount is above `available`. What is left is computed by a remainder, since
 // the churns' product may not fit.
+#[tactic(auto, using(crate::specs::Parts::additional_some, crate::specs::Parts::additional_none))]
 fn additional_epochs(available: Gwei, churn: Gwei, amount: Gwei) -> Additional
     requires { 0 < churn.0 }
     ensures epochs_value { result.epochs ≡ additional_epochs available.0 churn.0 amount.0 }
@@ -70,91 +54,85 @@ fn additional_epochs(available: Gwei, churn: Gwei, amount: Gwei) -> Additional
     }
 }
 
-// The assignment without the last sum, so that each caller can judge whether it fits.
-pub fn assignment_parts(
-    left: Gwei,
-    earliest: Epoch,
-    activation_exit: Epoch,
-    churn: Gwei,
-    amount: Gwei,
-) -> AssignmentParts
-    requires { 0 < churn.0 }
-    ensures { record { left = result.left.0; epoch = result.start.0 + result.additional }
-        ≡ assign_epoch left.0 earliest.0 activation_exit.0 churn.0 amount.0 }
-{
-    let start = start_account(left, earliest, activation_exit, churn);
-    let additional = additional_epochs(start.balance_to_consume, churn, amount);
-    AssignmentParts {
-        left: Gwei(additional.left.0),
-        start: Epoch(start.earliest_epoch.0),
-        additional: additional.epochs,
+impl ChurnAccount {
+    // The account where the assignment starts: it starts anew, with a whole churn, where it is behind.
+    #[tactic(auto, using(crate::specs::Parts::start_behind, crate::specs::Parts::start_kept))]
+    fn start_account(self, activation_exit: Epoch, churn: Gwei) -> ChurnAccount
+        ensures { plain_account result
+            ≡ start_account self.balance_to_consume.0 self.earliest_epoch.0 activation_exit.0 churn.0 }
+    {
+        if self.earliest_epoch.0 < activation_exit.0 {
+            return ChurnAccount {
+                balance_to_consume: churn,
+                earliest_epoch: activation_exit,
+            };
+        }
+        self
     }
-}
 
-// The account after an assignment, of its two numbers.
-pub fn assign_epoch(
-    left: Gwei,
-    earliest: Epoch,
-    activation_exit: Epoch,
-    churn: Gwei,
-    amount: Gwei,
-) -> ChurnAccount
-    requires { (0 < churn.0)
-        × ((assign_epoch left.0 earliest.0 activation_exit.0 churn.0 amount.0).epoch < 2 ^ 64) }
-    ensures { plain_account result ≡ assign_epoch left.0 earliest.0 activation_exit.0 churn.0 amount.0 }
-{
-    let p = assignment_parts(left, earliest, activation_exit, churn, amount);
-    ChurnAccount {
-        balance_to_consume: Gwei(p.left.0),
-        earliest_epoch: Epoch(p.start.0 + p.additional),
+    // The assignment without the last sum, so that each caller can judge whether it fits.
+    pub fn assignment_parts(
+        self,
+        activation_exit: Epoch,
+        churn: Gwei,
+        amount: Gwei,
+    ) -> AssignmentParts
+        requires { 0 < churn.0 }
+        ensures { record { left = result.left.0; epoch = result.start.0 + result.additional }
+            ≡ assigned_to self activation_exit.0 churn.0 amount.0 }
+    {
+        let start = self.start_account(activation_exit, churn);
+        let additional = additional_epochs(start.balance_to_consume, churn, amount);
+        AssignmentParts {
+            left: additional.left,
+            start: start.earliest_epoch,
+            additional: additional.epochs,
+        }
     }
-}
 
-// What compute_exit_epoch_and_update_churn and compute_consolidation_epoch_and_update_churn share: the account is taken
-// apart, and both numbers of the assignment are stored. The epoch assigned is returned.
-pub fn compute_epoch_and_update_churn(
-    account: &mut ChurnAccount,
-    activation_exit: Epoch,
-    churn: Gwei,
-    amount: Gwei,
-) -> Epoch
-    requires { (0 < churn.0)
-        × ((assigned_to account.old activation_exit.0 churn.0 amount.0).epoch < 2 ^ 64) }
-    ensures { (result.0 ≡ (assigned_to account.old activation_exit.0 churn.0 amount.0).epoch)
-        × (plain_account account.new
-        ≡ assigned_to account.old activation_exit.0 churn.0 amount.0) }
-{
-    let a = assign_epoch(
-        account.balance_to_consume,
-        account.earliest_epoch,
-        activation_exit,
-        churn,
-        amount,
-    );
-    account.balance_to_consume = a.balance_to_consume;
-    account.earliest_epoch = a.earliest_epoch;
-    a.earliest_epoch
-}
+    // The account after an assignment.
+    pub fn assign_epoch(self, activation_exit: Epoch, churn: Gwei, amount: Gwei) -> ChurnAccount
+        requires { (0 < churn.0)
+            × ((assigned_to self activation_exit.0 churn.0 amount.0).epoch < 2 ^ 64) }
+        ensures { plain_account result ≡ assigned_to self activation_exit.0 churn.0 amount.0 }
+    {
+        let p = self.assignment_parts(activation_exit, churn, amount);
+        ChurnAccount {
+            balance_to_consume: p.left,
+            earliest_epoch: Epoch(p.start.0 + p.additional),
+        }
+    }
 
-// The account after an assignment: it is lent, and handed back.
-pub fn account_after(
-    left: Gwei,
-    earliest: Epoch,
-    activation_exit: Epoch,
-    churn: Gwei,
-    amount: Gwei,
-) -> ChurnAccount
-    requires { (0 < churn.0)
-        × ((assign_epoch left.0 earliest.0 activation_exit.0 churn.0 amount.0).epoch < 2 ^ 64) }
-    ensures { plain_account result ≡ assign_epoch left.0 earliest.0 activation_exit.0 churn.0 amount.0 }
-{
-    let mut account = ChurnAccount {
-        balance_to_consume: left,
-        earliest_epoch: earliest,
-    };
-    let epoch = compute_epoch_and_update_churn(&mut account, activation_exit, churn, amount);
-    ChurnAccount {
-        balance_to_consume: account.balance_to_consume,
-        earliest_epoch: epoch,
+    // What compute_exit_epoch_and_update_churn and compute_consolidation_epoch_and_update_churn share: both numbers of
+    // the assignment are stored in the lent account, and the epoch assigned is returned.
+    pub fn compute_epoch_and_update_churn(
+        &mut self,
+        activation_exit: Epoch,
+        churn: Gwei,
+        amount: Gwei,
+    ) -> Epoch
+        requires { (0 < churn.0)
+            × ((assigned_to self.old activation_exit.0 churn.0 amount.0).epoch < 2 ^ 64) }
+        ensures { (result.0 ≡ (assigned_to self.old activation_exit.0 churn.0 amount.0).epoch)
+            × (plain_account self.new
+            ≡ assigned_to self.old activation_exit.0 churn.0 amount.0) }
+    {
+        *self = self.assign_epoch(activation_exit, churn, amount);
+        self.earliest_epoch
+    }
+
+    // The account after an assignment: it is lent, and handed back.
+    pub fn account_after(
+        mut self,
+        activation_exit: Epoch,
+        churn: Gwei,
+        amount: Gwei,
+    ) -> ChurnAccount
+        requires { (0 < churn.0)
+            × ((assigned_to self activation_exit.0 churn.0 amount.0).epoch < 2 ^ 64) }
+        ensures { plain_account result ≡ assigned_to self activation_exit.0 churn.0 amount.0 }
+    {
+        self.compute_epoch_and_update_churn(activation_exit, churn, amount);
+        self
     }
 }

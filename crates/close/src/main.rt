@@ -3,28 +3,18 @@
 
 #![tactic(auto)]
 
-ghost use Rattle.std.specs.Prelude.{◌≡◌, length};
-
 use full_reads::read_file;
 use std::rt::Files;
 use std::{fs, io};
 
 // One byte more than a file may have, so that a longer one shows.
-fn file_buffer() -> [u8; 65537]
-    ensures { 65537 ≡ length result }
-{
-    [0; 65537]
-}
+const FILE: usize = 65537;
 
 // Room for books with 256 records of each kind.
-fn closing_buffer() -> [u8; 68968]
-    ensures { 68968 ≡ length result }
-{
-    [0; 68968]
-}
+const CLOSING: usize = 68968;
 
 fn print_refused(to: &impl Print, number: u8) -> io::Result<()> {
-    let mut line = [0u8; 11];
+    let mut line = [0; 11];
     table_text::put_refused(&mut line, number);
     to.write_all(&line)
 }
@@ -38,15 +28,14 @@ fn write(rt: &(impl Files + Print + Eprint), bytes: &[u8]) -> io::Result<()> {
 }
 
 fn main(rt: HostRuntime) -> io::Result<()> {
-    let mut opening = file_buffer();
-    let mut calls = file_buffer();
-    let mut out = closing_buffer();
+    let mut opening = [0; FILE];
+    let mut calls = [0; FILE];
+    let mut out = [0; CLOSING];
     let n = read_file(&rt, "opening.w", &mut opening)?;
     let m = read_file(&rt, "calls.w", &mut calls)?;
     let written = books_output::closing::closing_file(&opening[..n], &calls[..m], &mut out);
     if written.number != 0 {
         return print_refused(&rt, written.number);
     }
-    let k = written.length;
-    write(&rt, &out[..k])
+    write(&rt, &out[..written.length])
 }

@@ -15,10 +15,11 @@ use primitives::{Gwei, Scalars, Settings, ValidatorIndex};
 use records::queues::PendingBalanceDeposit;
 
 // A switch queues an entry where the balance is above the minimum.
+#[tactic(auto, using(crate::specs::Laws::entries_low, crate::specs::Laws::entries_high))]
 pub fn excess_entry_count(minimum: Gwei, balance: u64) -> usize
     ensures { result ≡ excess_entry_count minimum.0 balance }
 {
-    if minimum.0 < balance { 1 } else { 0 }
+    usize::from(minimum.0 < balance)
 }
 
 // The balance above the minimum goes behind the waiting deposits.
@@ -50,7 +51,7 @@ fn queue_excess_active_balance(
     }
     let excess_balance = Gwei(balance.0 - least.0);
     records::registry::set_balance(validators, i, least);
-    records::queues::push_deposit(
+    records::queues::push(
         deposits,
         n,
         PendingBalanceDeposit {

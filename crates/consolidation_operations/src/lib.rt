@@ -8,17 +8,19 @@ ghost use Rattle.rules.specs.BlockProcessing.{consolidation_refusal, process_con
 ghost use Rattle.rules.specs.Acceptance.{sound_settings};
 ghost use Rattle.rules.specs.Calls.{handed_refusal, consolidation};
 ghost use Rattle.rule_laws.specs.Accepted.{SoundBooks};
+ghost use Rattle.primitives.specs.Answers.{answer_number, answer_or};
 ghost use Rattle.primitives.specs.Settings.{settings_of};
 ghost use Rattle.records.specs.Layout.{identities_fit, validators_fit, consolidations_fit};
 ghost use Rattle.records.specs.Plain.{plain_validator};
+ghost use Rattle.records.specs.Lent.{plain_books};
 ghost use Rattle.records.specs.Books.{tables, books_of, room_of, Called};
 ghost use Rattle.helpers.specs.Ready.{Registry, Accounts};
 ghost use Rattle.call_answers.specs.Answers.{Judged};
 ghost use Rattle.consolidation_operations.specs.Consolidations.{pair_refusal};
 
-use primitives::{
-    BOUND, Epoch, FAR_FUTURE_EPOCH, Gwei, Outcome, Scalars, Settings, ValidatorIndex, answers,
-};
+use primitives::answers::Refusal;
+use primitives::{BOUND, Epoch, FAR_FUTURE_EPOCH, Gwei, Scalars, Settings, ValidatorIndex};
+use records::books::Books;
 use records::queues::PendingConsolidation;
 use records::validator::Validator;
 
@@ -29,80 +31,84 @@ fn pair_refusal(
     target: Validator,
     epoch: Epoch,
     valid: bool,
-) -> u8
-    ensures { result ≡ pair_refusal current_epoch.0 (plain_validator source) (plain_validator target) epoch.0 valid }
+) -> Result<(), Refusal>
+    ensures { answer_number result ≡ pair_refusal current_epoch.0 (plain_validator source) (plain_validator target) epoch.0 valid }
 {
     if !source.is_active_validator(current_epoch) {
-        return answers::NOT_ACTIVE;
+        return Err(Refusal::NotActive);
     }
     if !target.is_active_validator(current_epoch) {
-        return answers::NOT_ACTIVE;
+        return Err(Refusal::NotActive);
     }
     if source.exit_epoch.0 != FAR_FUTURE_EPOCH {
-        return answers::EXIT_BEGUN;
+        return Err(Refusal::ExitBegun);
     }
     if target.exit_epoch.0 != FAR_FUTURE_EPOCH {
-        return answers::EXIT_BEGUN;
+        return Err(Refusal::ExitBegun);
     }
     if current_epoch.0 < epoch.0 {
-        return answers::STATED_EPOCH_AHEAD;
+        return Err(Refusal::StatedEpochAhead);
     }
     if !source.has_execution_withdrawal_credential() {
-        return answers::NO_EXECUTION_CREDENTIAL;
+        return Err(Refusal::NoExecutionCredential);
     }
     if !target.has_execution_withdrawal_credential() {
-        return answers::NO_EXECUTION_CREDENTIAL;
+        return Err(Refusal::NoExecutionCredential);
     }
     let source_address = source.withdrawal_address();
     let target_address = target.withdrawal_address();
-    if !records::bytes::same_address(source_address, target_address) {
-        return answers::ADDRESSES_DIFFER;
+    if source_address != target_address {
+        return Err(Refusal::AddressesDiffer);
     }
     if !valid {
-        return answers::BAD_SIGNATURE;
+        return Err(Refusal::BadSignature);
     }
-    answers::DONE
+    Ok(())
 }
 
 // The first test of a consolidation that fails; 0 where none does. The consolidation churn is known.
 pub fn consolidation_refusal(
     settings: Settings,
-    scalars: Scalars,
-    identities: &[u8],
-    validators: &[u64],
+    books: &Books<'_>,
     churn: Gwei,
     source: ValidatorIndex,
     target: ValidatorIndex,
     epoch: Epoch,
     valid: bool,
-) -> u8
-    requires tables_hold { (scalars.validators ≤ identities_fit identities.now)
-        × (scalars.validators ≤ validators_fit validators.now) }
-    requires churn_is { (ds ps cs : List ℕ)
-        → churn.0 ≡ get_consolidation_churn_limit (settings_of settings)
-        (books_of scalars (tables identities.now validators.now ds ps cs)) }
-    ensures { (ds ps cs : List ℕ)
-        → result ≡ consolidation_refusal (settings_of settings)
-        (books_of scalars (tables identities.now validators.now ds ps cs))
+) -> Result<(), Refusal>
+    requires tables_hold { (books.now.scalars.validators ≤ identities_fit books.now.identities.now)
+        × (books.now.scalars.validators ≤ validators_fit books.now.validators.now) }
+    requires churn_is { churn.0 ≡ get_consolidation_churn_limit (settings_of settings) (plain_books books.now) }
+    ensures { answer_number result
+        ≡ consolidation_refusal (settings_of settings) (plain_books books.now)
         source.0 target.0 epoch.0 valid }
 {
+    let scalars = books.scalars;
     if settings.pending_consolidations_limit <= scalars.consolidations {
-        return answers::CONSOLIDATION_QUEUE_FULL;
+        return Err(Refusal::ConsolidationQueueFull);
     }
     if churn.0 <= settings.min_activation_balance.0 {
-        return answers::CONSOLIDATION_CHURN_TOO_LOW;
+        return Err(Refusal::ConsolidationChurnTooLow);
     }
     if source.0 == target.0 {
-        return answers::SOURCE_IS_TARGET;
+        return Err(Refusal::SourceIsTarget);
     }
     if scalars.validators <= source.0 {
-        return answers::NO_SUCH_VALIDATOR;
+        return Err(Refusal::NoSuchValidator);
     }
     if scalars.validators <= target.0 {
-        return answers::NO_SUCH_VALIDATOR;
+        return Err(Refusal::NoSuchValidator);
     }
-    let source_validator = records::registry::validator_at(identities, validators, source);
-    let target_validator = records::registry::validator_at(identities, validators, target);
+    let source_validator = records::registry::validator_at(
+        books.identities,
+        books.validators,
+        source,
+    );
+    let target_validator = records::registry::validator_at(
+        books.identities,
+        books.validators,
+        target,
+    );
     pair_refusal(
         scalars.epoch,
         source_validator,
@@ -121,7 +127,7 @@ fn consolidation_within_bound(
     churn: Gwei,
     source: ValidatorIndex,
     target: ValidatorIndex,
-) -> Outcome
+) -> Result<Scalars, Refusal>
     requires settings_are_sound { sound_settings (settings_of settings) ≡ true }
     requires registry { Registry scalars validators.old }
     requires accounts { Accounts scalars }
@@ -137,16 +143,13 @@ fn consolidation_within_bound(
         → Judged (settings_of settings) (process_consolidation (settings_of settings) source.0 target.0) scalars
         (tables ids validators.old ds ps consolidations.old)
         (tables ids validators.new ds ps consolidations.new)
-        result.number result.scalars }
+        (answer_number result) (answer_or scalars result) }
 {
     let amount = records::registry::effective_balance_at(validators, source);
     let a = helpers::exits::assign_consolidation_epoch(settings, scalars, churn, amount);
     let withdrawable = helpers::exits::withdrawable_epoch(settings, a);
     if BOUND < withdrawable.0 {
-        return Outcome {
-            number: answers::RESULT_EPOCH_OVER_BOUND,
-            scalars,
-        };
+        return Err(Refusal::ResultEpochOverBound);
     }
     let n = scalars.consolidations;
     let entry = PendingConsolidation {
@@ -154,13 +157,10 @@ fn consolidation_within_bound(
         target_index: target,
     };
     records::registry::set_exit(validators, source, a.epoch, withdrawable);
-    records::queues::push_consolidation(consolidations, n, entry);
+    records::queues::push(consolidations, n, entry);
     let charged = scalars.with_consolidation_churn(a.left, a.epoch);
     let queued = charged.with_consolidations(n + 1);
-    Outcome {
-        number: answers::DONE,
-        scalars: queued,
-    }
+    Ok(queued)
 }
 
 pub fn process_consolidation(
@@ -175,7 +175,7 @@ pub fn process_consolidation(
     target: ValidatorIndex,
     epoch: Epoch,
     valid: bool,
-) -> Outcome
+) -> Result<Scalars, Refusal>
     requires { handed_refusal (settings_of settings)
         (books_of scalars
         (tables identities.now validators.old deposits.now partials.now consolidations.old))
@@ -186,15 +186,18 @@ pub fn process_consolidation(
         partials.now consolidations.old)
         (tables identities.now validators.new deposits.now
         partials.now consolidations.new)
-        result.number result.scalars }
+        (answer_number result) (answer_or scalars result) }
 {
     let churn = helpers::churn::get_consolidation_churn_limit(settings, scalars, validators);
-    let number = consolidation_refusal(
-        settings, scalars, identities, validators, churn, source, target, epoch, valid,
-    );
-    if number != answers::DONE {
-        return Outcome { number, scalars };
-    }
+    let books = Books {
+        scalars,
+        identities,
+        validators,
+        deposits,
+        partials,
+        consolidations,
+    };
+    consolidation_refusal(settings, &books, churn, source, target, epoch, valid)?;
     consolidation_within_bound(
         settings,
         scalars,

@@ -1,9 +1,12 @@
 // The consolidation step alone.
 ghost use Rattle.rules.specs.Calls.{pending_consolidations};
+ghost use Rattle.primitives.specs.Answers.{answer_number, answer_or};
 ghost use Rattle.primitives.specs.Settings.{settings_of};
 ghost use Rattle.records.specs.Books.{tables, Called};
 
-use primitives::{Outcome, Scalars, Settings, answers};
+use primitives::answers::Refusal;
+use primitives::{Scalars, Settings};
+use records::books::Books;
 
 // Whether the deposit queue will be within its limit is known before the first store.
 pub fn process_pending_consolidations(
@@ -14,33 +17,26 @@ pub fn process_pending_consolidations(
     deposits: &mut [u64],
     partials: &[u64],
     consolidations: &mut [u64],
-) -> Outcome
+) -> Result<Scalars, Refusal>
     ensures { Called (settings_of settings) pending_consolidations scalars
         (tables identities.old validators.old deposits.old
         partials.now consolidations.old)
         (tables identities.new validators.new deposits.new
-        partials.now consolidations.new) result.number result.scalars }
+        partials.now consolidations.new) (answer_number result) (answer_or scalars result) }
 {
-    let handed = acceptance::handed(
+    acceptance::accept(
         settings,
-        scalars,
-        identities,
-        validators,
-        deposits,
-        partials,
-        consolidations,
-    );
-    if handed != answers::DONE {
-        return Outcome {
-            number: handed,
+        &Books {
             scalars,
-        };
-    }
+            identities,
+            validators,
+            deposits,
+            partials,
+            consolidations,
+        },
+    )?;
     if !queue_room::consolidations_fit(settings, scalars, identities, validators, consolidations) {
-        return Outcome {
-            number: answers::RESULT_OVER_LIMIT,
-            scalars,
-        };
+        return Err(Refusal::ResultOverLimit);
     }
     let after = pending_consolidations::process_pending_consolidations(
         settings,
@@ -51,8 +47,5 @@ pub fn process_pending_consolidations(
         partials,
         consolidations,
     );
-    Outcome {
-        number: answers::DONE,
-        scalars: after,
-    }
+    Ok(after)
 }

@@ -1,9 +1,12 @@
 // The deposit step alone.
 ghost use Rattle.rules.specs.Calls.{pending_balance_deposits};
+ghost use Rattle.primitives.specs.Answers.{answer_number, answer_or};
 ghost use Rattle.primitives.specs.Settings.{settings_of};
 ghost use Rattle.records.specs.Books.{tables, Called};
 
-use primitives::{Outcome, Scalars, Settings, answers};
+use primitives::answers::Refusal;
+use primitives::{Scalars, Settings};
+use records::books::Books;
 
 pub fn process_pending_balance_deposits(
     settings: Settings,
@@ -13,28 +16,24 @@ pub fn process_pending_balance_deposits(
     deposits: &mut [u64],
     partials: &[u64],
     consolidations: &[u64],
-) -> Outcome
+) -> Result<Scalars, Refusal>
     ensures { Called (settings_of settings) pending_balance_deposits scalars
         (tables identities.now validators.old deposits.old
         partials.now consolidations.now)
         (tables identities.now validators.new deposits.new
-        partials.now consolidations.now) result.number result.scalars }
+        partials.now consolidations.now) (answer_number result) (answer_or scalars result) }
 {
-    let handed = acceptance::handed(
+    acceptance::accept(
         settings,
-        scalars,
-        identities,
-        validators,
-        deposits,
-        partials,
-        consolidations,
-    );
-    if handed != answers::DONE {
-        return Outcome {
-            number: handed,
+        &Books {
             scalars,
-        };
-    }
+            identities,
+            validators,
+            deposits,
+            partials,
+            consolidations,
+        },
+    )?;
     let allowance = helpers::churn::get_activation_exit_churn_limit(settings, scalars, validators);
     let after = pending_deposits::process_pending_balance_deposits(
         settings,
@@ -46,8 +45,5 @@ pub fn process_pending_balance_deposits(
         consolidations,
         allowance,
     );
-    Outcome {
-        number: answers::DONE,
-        scalars: after,
-    }
+    Ok(after)
 }

@@ -1,9 +1,12 @@
 // The effective balance step alone.
 ghost use Rattle.rules.specs.Calls.{effective_balance_updates};
+ghost use Rattle.primitives.specs.Answers.{answer_number, answer_or};
 ghost use Rattle.primitives.specs.Settings.{settings_of};
 ghost use Rattle.records.specs.Books.{tables, Called};
 
-use primitives::{Outcome, Scalars, Settings, answers};
+use primitives::answers::Refusal;
+use primitives::{Scalars, Settings};
+use records::books::Books;
 
 pub fn process_effective_balance_updates(
     settings: Settings,
@@ -13,33 +16,26 @@ pub fn process_effective_balance_updates(
     deposits: &[u64],
     partials: &[u64],
     consolidations: &[u64],
-) -> Outcome
+) -> Result<Scalars, Refusal>
     ensures { Called (settings_of settings) effective_balance_updates scalars
         (tables identities.now validators.old deposits.now
         partials.now consolidations.now)
         (tables identities.now validators.new deposits.now
-        partials.now consolidations.now) result.number result.scalars }
+        partials.now consolidations.now) (answer_number result) (answer_or scalars result) }
 {
-    let handed = acceptance::handed(
+    acceptance::accept(
         settings,
-        scalars,
-        identities,
-        validators,
-        deposits,
-        partials,
-        consolidations,
-    );
-    if handed != answers::DONE {
-        return Outcome {
-            number: handed,
+        &Books {
             scalars,
-        };
-    }
+            identities,
+            validators,
+            deposits,
+            partials,
+            consolidations,
+        },
+    )?;
     let after = epoch_processing::effective_balances::process_effective_balance_updates(
         settings, scalars, identities, validators,
     );
-    Outcome {
-        number: answers::DONE,
-        scalars: after,
-    }
+    Ok(after)
 }

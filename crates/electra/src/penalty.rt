@@ -1,9 +1,12 @@
 // A penalty takes from a balance, which stops at 0.
 ghost use Rattle.rules.specs.Calls.{penalty};
+ghost use Rattle.primitives.specs.Answers.{answer_number, answer_or};
 ghost use Rattle.primitives.specs.Settings.{settings_of};
 ghost use Rattle.records.specs.Books.{tables, Called};
 
-use primitives::{Gwei, Outcome, Scalars, Settings, ValidatorIndex, answers};
+use primitives::answers::Refusal;
+use primitives::{Gwei, Scalars, Settings, ValidatorIndex};
+use records::books::Books;
 
 pub fn penalty(
     settings: Settings,
@@ -15,28 +18,24 @@ pub fn penalty(
     consolidations: &[u64],
     i: ValidatorIndex,
     amount: Gwei,
-) -> Outcome
+) -> Result<Scalars, Refusal>
     ensures { Called (settings_of settings) (penalty i.0 amount.0) scalars
         (tables identities.now validators.old deposits.now
         partials.now consolidations.now)
         (tables identities.now validators.new deposits.now
-        partials.now consolidations.now) result.number result.scalars }
+        partials.now consolidations.now) (answer_number result) (answer_or scalars result) }
 {
-    let handed = acceptance::handed(
+    acceptance::accept(
         settings,
-        scalars,
-        identities,
-        validators,
-        deposits,
-        partials,
-        consolidations,
-    );
-    if handed != answers::DONE {
-        return Outcome {
-            number: handed,
+        &Books {
             scalars,
-        };
-    }
+            identities,
+            validators,
+            deposits,
+            partials,
+            consolidations,
+        },
+    )?;
     rewards::penalty::penalty_accepted(
         settings,
         scalars,

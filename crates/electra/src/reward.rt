@@ -1,9 +1,12 @@
 // A reward adds to a balance.
 ghost use Rattle.rules.specs.Calls.{reward};
+ghost use Rattle.primitives.specs.Answers.{answer_number, answer_or};
 ghost use Rattle.primitives.specs.Settings.{settings_of};
 ghost use Rattle.records.specs.Books.{tables, Called};
 
-use primitives::{Gwei, Outcome, Scalars, Settings, ValidatorIndex, answers};
+use primitives::answers::Refusal;
+use primitives::{Gwei, Scalars, Settings, ValidatorIndex};
+use records::books::Books;
 
 pub fn reward(
     settings: Settings,
@@ -15,29 +18,25 @@ pub fn reward(
     consolidations: &[u64],
     i: ValidatorIndex,
     amount: Gwei,
-) -> Outcome
+) -> Result<Scalars, Refusal>
     ensures { Called (settings_of settings) (reward i.0 amount.0) scalars
         (tables identities.now validators.old deposits.now
         partials.now consolidations.now)
         (tables identities.now validators.new deposits.now
-        partials.now consolidations.now) result.number result.scalars }
+        partials.now consolidations.now) (answer_number result) (answer_or scalars result) }
 {
-    let handed = acceptance::accept(
+    let held = acceptance::accept(
         settings,
-        scalars,
-        identities,
-        validators,
-        deposits,
-        partials,
-        consolidations,
-    );
-    if handed.number != answers::DONE {
-        return Outcome {
-            number: handed.number,
+        &Books {
             scalars,
-        };
-    }
-    let sums = acceptance::sum_within(handed.held, amount);
+            identities,
+            validators,
+            deposits,
+            partials,
+            consolidations,
+        },
+    )?;
+    let sums = acceptance::sum_within(held, amount);
     rewards::reward::reward_accepted(
         settings,
         scalars,

@@ -1,9 +1,12 @@
 // The turn of an epoch.
 ghost use Rattle.rules.specs.Calls.{turn};
+ghost use Rattle.primitives.specs.Answers.{answer_number, answer_or};
 ghost use Rattle.primitives.specs.Settings.{settings_of};
 ghost use Rattle.records.specs.Books.{tables, Called};
 
-use primitives::{Outcome, Scalars, Settings, answers};
+use primitives::answers::Refusal;
+use primitives::{Scalars, Settings};
+use records::books::Books;
 
 // The three steps, then the next epoch.
 pub fn turn(
@@ -14,28 +17,24 @@ pub fn turn(
     deposits: &mut [u64],
     partials: &[u64],
     consolidations: &mut [u64],
-) -> Outcome
+) -> Result<Scalars, Refusal>
     ensures { Called (settings_of settings) turn scalars
         (tables identities.old validators.old deposits.old
         partials.now consolidations.old)
         (tables identities.new validators.new deposits.new
-        partials.now consolidations.new) result.number result.scalars }
+        partials.now consolidations.new) (answer_number result) (answer_or scalars result) }
 {
-    let handed = acceptance::handed(
+    acceptance::accept(
         settings,
-        scalars,
-        identities,
-        validators,
-        deposits,
-        partials,
-        consolidations,
-    );
-    if handed != answers::DONE {
-        return Outcome {
-            number: handed,
+        &Books {
             scalars,
-        };
-    }
+            identities,
+            validators,
+            deposits,
+            partials,
+            consolidations,
+        },
+    )?;
     epoch_turns::turn_accepted(
         settings,
         scalars,

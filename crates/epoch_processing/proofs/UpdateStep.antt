@@ -1,6 +1,6 @@
 -- One effective balance from what the code stores, the loop validator by validator, and the step.
 use mathlib.Core.Path.{◌≡◌, refl, sym, ap, ◌∙◌}
-use mathlib.Core.Bool.{Bool, true, false, ◌||◌}
+use mathlib.Core.Bool.{true, false, ◌||◌}
 use mathlib.Core.List.{List, [], ◌∷◌, map}
 use Prim.Native.Nat.{ℕ, zero, suc, ◌+◌, ◌-◌, ◌*◌, ◌/◌, ◌%◌, ◌<◌, ◌≤◌, ◌^◌, min}
 use native.Mathlib.Nat.{div-le_self, mul-le-mul, le_of_suc-le-suc}
@@ -8,7 +8,6 @@ use native.Mathlib.Numerals.{add-one}
 use native.Mathlib.Omega.{arith}
 use lib.ListN.{length, get_or}
 use lib.Dec.{ltb}
-use borrow.Author.Tests.{lt-ltb, le-ltb}
 use Rattle.lists.specs.Base.{when◌then◌else◌, adjust}
 use Rattle.lists.specs.Laws.{adjust_same}
 use Rattle.tables.specs.Rows.{rows, length_rows, get_d_rows, rows_adjust}
@@ -24,13 +23,6 @@ use Rattle.records.specs.Stores.{ValidatorAdjusted}
 use Rattle.epoch_processing.specs.Updates.{downward_threshold, upward_threshold, Updated}
 
 -- ---- one validator
-
--- the two tests of the band in the code's order
-pub below_band : (a b : ℕ) (t : Bool) → a < b → true ≡ (ltb a b || t)
-below_band a b t h = rw (lt-ltb a b h)
-
-pub not_below_band : (a b : ℕ) (t : Bool) → b ≤ a → t ≡ (ltb a b || t)
-not_below_band a b t h = rw (le-ltb a b h)
 
 pub needs_read : (S : Settings) (v : Validator) (effective balance downward upward : ℕ)
     → effective ≡ v.effective_balance → balance ≡ v.balance
@@ -96,9 +88,6 @@ pub record Updating (S : Settings) (n : ℕ) (ids old new : List ℕ) (i : ℕ) 
   pub validators : rows n (validator_at ids new) ≡ map_first i (updated S) (rows n (validator_at ids old))
   pub past : validators_past n new ≡ validators_past n old
   pub size : length new ≡ length old
-
-pub updating_none : (S : Settings) (n : ℕ) (ids vs : List ℕ) → Updating S n ids vs vs 0
-updating_none S n ids vs = record { reached = omega arith; validators = refl; past = refl; size = refl }
 
 module _ {S : Settings} {n : ℕ} {ids old new : List ℕ} {i : ℕ} (h : Updating S n ids old new i) where
   -- the validators from i on are as they were

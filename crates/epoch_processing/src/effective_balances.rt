@@ -10,44 +10,62 @@ ghost use Rattle.epoch_processing.specs.Ready.{UpdatesReady};
 
 use primitives::{Gwei, Scalars, Settings, ValidatorIndex};
 
-// The balance stands outside the band around the effective balance.
-fn needs_update(effective_balance: Gwei, balance: Gwei, downward: Gwei, upward: Gwei) -> bool
-    requires { (balance.0 + downward.0 < 2 ^ 64) × (effective_balance.0 + upward.0 < 2 ^ 64) }
-    ensures { result ≡ (ltb (balance.0 + downward.0) effective_balance.0
-        || ltb (effective_balance.0 + upward.0) balance.0) }
-{
-    if balance.0 + downward.0 < effective_balance.0 {
-        return true;
-    }
-    effective_balance.0 + upward.0 < balance.0
+// How far a balance may stand below and above its effective balance.
+#[derive(Clone, Copy)]
+struct Band {
+    downward: Gwei,
+    upward: Gwei,
 }
 
-// One validator, with the two thresholds of the settings.
+impl Band {
+    fn of(settings: Settings) -> Band
+        requires { sound_settings (settings_of settings) ≡ true }
+        ensures { (result.downward.0 ≡ downward_threshold (settings_of settings))
+            × (result.upward.0 ≡ upward_threshold (settings_of settings)) }
+    {
+        let increment = settings.effective_balance_increment.0 / settings.hysteresis_quotient;
+        Band {
+            downward: Gwei(increment * settings.hysteresis_downward_multiplier),
+            upward: Gwei(increment * settings.hysteresis_upward_multiplier),
+        }
+    }
+
+    // The balance stands outside the band around the effective balance.
+    fn needs_update(self, effective_balance: Gwei, balance: Gwei) -> bool
+        requires { (balance.0 + self.downward.0 < 2 ^ 64) × (effective_balance.0 + self.upward.0 < 2 ^ 64) }
+        ensures { result ≡ (ltb (balance.0 + self.downward.0) effective_balance.0
+            || ltb (effective_balance.0 + self.upward.0) balance.0) }
+    {
+        balance.0 + self.downward.0 < effective_balance.0
+            || effective_balance.0 + self.upward.0 < balance.0
+    }
+}
+
+// One validator, with the band of the settings.
 fn update_effective_balance(
     settings: Settings,
     identities: &[u8],
     validators: &mut [u64],
     i: ValidatorIndex,
-    downward: Gwei,
-    upward: Gwei,
+    band: Band,
 )
     requires held { (i.0 < identities_fit identities.now) × (i.0 < validators_fit validators.old) }
-    requires thresholds { (downward.0 ≡ downward_threshold (settings_of settings))
-        × (upward.0 ≡ upward_threshold (settings_of settings))
+    requires thresholds { (band.downward.0 ≡ downward_threshold (settings_of settings))
+        × (band.upward.0 ≡ upward_threshold (settings_of settings))
         × (0 < settings.effective_balance_increment.0) }
-    requires sums_fit { (balance_at validators.old i.0 + downward.0 < 2 ^ 64)
-        × (effective_balance_at validators.old i.0 + upward.0 < 2 ^ 64) }
+    requires sums_fit { (balance_at validators.old i.0 + band.downward.0 < 2 ^ 64)
+        × (effective_balance_at validators.old i.0 + band.upward.0 < 2 ^ 64) }
     ensures { Updated (settings_of settings) i.0 identities.now
         validators.old validators.new }
 {
     let effective_balance = records::registry::effective_balance_at(validators, i);
     let balance = records::registry::balance_at(validators, i);
-    if !needs_update(effective_balance, balance, downward, upward) {
+    if !band.needs_update(effective_balance, balance) {
         return;
     }
     let most = records::registry::max_effective_balance_at(settings, identities, i);
     let rounded = balance.0 - balance.0 % settings.effective_balance_increment.0;
-    let updated = primitives::min(Gwei(rounded), most);
+    let updated = Gwei(rounded.min(most.0));
     records::registry::set_effective_balance(validators, i, updated);
 }
 
@@ -65,21 +83,9 @@ pub fn process_effective_balance_updates(
         (tables identities.now validators.new ds ps cs) result }
     ensures scalars_kept { result ≡ scalars }
 {
-    let n = scalars.validators;
-    let increment = settings.effective_balance_increment.0 / settings.hysteresis_quotient;
-    let downward = Gwei(increment * settings.hysteresis_downward_multiplier);
-    let upward = Gwei(increment * settings.hysteresis_upward_multiplier);
-    let mut i = 0;
-    while i < n {
-        update_effective_balance(
-            settings,
-            identities,
-            validators,
-            ValidatorIndex(i),
-            downward,
-            upward,
-        );
-        i += 1;
+    let band = Band::of(settings);
+    for i in 0..scalars.validators {
+        update_effective_balance(settings, identities, validators, ValidatorIndex(i), band);
     }
     scalars
 }

@@ -4,10 +4,12 @@
 
 ghost use Rattle.std.specs.Prelude.{◌≡◌};
 ghost use Rattle.rules.specs.Calls.{handed_refusal, turn};
+ghost use Rattle.primitives.specs.Answers.{answer_number, answer_or};
 ghost use Rattle.primitives.specs.Settings.{settings_of};
 ghost use Rattle.records.specs.Books.{tables, books_of, room_of, Called};
 
-use primitives::{BOUND, Outcome, Scalars, Settings, answers};
+use primitives::answers::Refusal;
+use primitives::{BOUND, Scalars, Settings};
 
 // The three steps, then the next epoch.
 pub fn turn_accepted(
@@ -18,7 +20,7 @@ pub fn turn_accepted(
     deposits: &mut [u64],
     partials: &[u64],
     consolidations: &mut [u64],
-) -> Outcome
+) -> Result<Scalars, Refusal>
     requires { handed_refusal (settings_of settings)
         (books_of scalars
         (tables identities.old validators.old deposits.old partials.now consolidations.old))
@@ -28,7 +30,7 @@ pub fn turn_accepted(
         (tables identities.old validators.old deposits.old
         partials.now consolidations.old)
         (tables identities.new validators.new deposits.new
-        partials.now consolidations.new) result.number result.scalars }
+        partials.now consolidations.new) (answer_number result) (answer_or scalars result) }
 {
     let allowance = helpers::churn::get_activation_exit_churn_limit(settings, scalars, validators);
     if !queue_room::turn_fits(
@@ -40,16 +42,10 @@ pub fn turn_accepted(
         consolidations,
         allowance,
     ) {
-        return Outcome {
-            number: answers::RESULT_OVER_LIMIT,
-            scalars,
-        };
+        return Err(Refusal::ResultOverLimit);
     }
     if BOUND <= scalars.epoch.0 {
-        return Outcome {
-            number: answers::RESULT_EPOCH_OVER_BOUND,
-            scalars,
-        };
+        return Err(Refusal::ResultEpochOverBound);
     }
     let after = epoch_processing::turn(
         settings,
@@ -61,8 +57,5 @@ pub fn turn_accepted(
         consolidations,
         allowance,
     );
-    Outcome {
-        number: answers::DONE,
-        scalars: after,
-    }
+    Ok(after)
 }

@@ -9,15 +9,17 @@ ghost use Rattle.rules.specs.BlockProcessing.{voluntary_exit_refusal};
 ghost use Rattle.rules.specs.Acceptance.{sound_settings};
 ghost use Rattle.rules.specs.Calls.{handed_refusal, voluntary_exit};
 ghost use Rattle.rule_laws.specs.Accepted.{SoundBooks};
+ghost use Rattle.primitives.specs.Answers.{answer_number, answer_or};
 ghost use Rattle.primitives.specs.Settings.{settings_of};
 ghost use Rattle.records.specs.Layout.{exit_epoch_at, identities_fit};
+ghost use Rattle.records.specs.Lent.{plain_books};
 ghost use Rattle.records.specs.Books.{tables, books_of, room_of, Called};
 ghost use Rattle.helpers.specs.Ready.{Registry, Accounts, Partials};
 ghost use Rattle.call_answers.specs.Answers.{Judged};
 
-use primitives::{
-    BOUND, Epoch, FAR_FUTURE_EPOCH, Outcome, Scalars, Settings, ValidatorIndex, answers,
-};
+use primitives::answers::Refusal;
+use primitives::{BOUND, Epoch, FAR_FUTURE_EPOCH, Scalars, Settings, ValidatorIndex};
+use records::books::Books;
 
 // The exit of a validator that has not begun its exit, unless an epoch that it writes is over the bound.
 pub fn exit_within_bound(
@@ -25,7 +27,7 @@ pub fn exit_within_bound(
     scalars: Scalars,
     validators: &mut [u64],
     i: ValidatorIndex,
-) -> Outcome
+) -> Result<Scalars, Refusal>
     requires settings_are_sound { sound_settings (settings_of settings) ≡ true }
     requires registry { Registry scalars validators.old }
     requires accounts { Accounts scalars }
@@ -34,69 +36,59 @@ pub fn exit_within_bound(
         → SoundBooks (settings_of settings) (books_of scalars (tables ids validators.old ds ps cs))
         → Judged (settings_of settings) (initiate_validator_exit (settings_of settings) i.0) scalars
         (tables ids validators.old ds ps cs) (tables ids validators.new ds ps cs)
-        result.number result.scalars }
+        (answer_number result) (answer_or scalars result) }
 {
     let a = helpers::exits::assign_exit(settings, scalars, validators, i);
     let withdrawable = helpers::exits::withdrawable_epoch(settings, a);
     if BOUND < withdrawable.0 {
-        return Outcome {
-            number: answers::RESULT_EPOCH_OVER_BOUND,
-            scalars,
-        };
+        return Err(Refusal::ResultEpochOverBound);
     }
     let begun = helpers::exits::begin_exit(settings, scalars, validators, i, a);
-    Outcome {
-        number: answers::DONE,
-        scalars: begun,
-    }
+    Ok(begun)
 }
 
 // The first test of a voluntary exit that fails; 0 where none does. The time active counts from the activation epoch.
 pub fn voluntary_exit_refusal(
     settings: Settings,
-    scalars: Scalars,
-    identities: &[u8],
-    validators: &[u64],
-    partials: &[u64],
+    books: &Books<'_>,
     i: ValidatorIndex,
     epoch: Epoch,
     valid: bool,
-) -> u8
+) -> Result<(), Refusal>
     requires settings_are_sound { sound_settings (settings_of settings) ≡ true }
-    requires identities_room { scalars.validators ≤ identities_fit identities.now }
-    requires registry { Registry scalars validators.now }
-    requires accounts { Accounts scalars }
-    requires partials { Partials scalars partials.now }
-    ensures { (ds cs : List ℕ)
-        → result ≡ voluntary_exit_refusal (settings_of settings)
-        (books_of scalars (tables identities.now validators.now ds partials.now cs))
-        i.0 epoch.0 valid }
+    requires identities_room { books.now.scalars.validators ≤ identities_fit books.now.identities.now }
+    requires registry { Registry books.now.scalars books.now.validators.now }
+    requires accounts { Accounts books.now.scalars }
+    requires partials { Partials books.now.scalars books.now.partials.now }
+    ensures { answer_number result
+        ≡ voluntary_exit_refusal (settings_of settings) (plain_books books.now) i.0 epoch.0 valid }
 {
+    let scalars = books.scalars;
     let current_epoch = scalars.epoch;
     if scalars.validators <= i.0 {
-        return answers::NO_SUCH_VALIDATOR;
+        return Err(Refusal::NoSuchValidator);
     }
-    let v = records::registry::validator_at(identities, validators, i);
+    let v = records::registry::validator_at(books.identities, books.validators, i);
     if !v.is_active_validator(current_epoch) {
-        return answers::NOT_ACTIVE;
+        return Err(Refusal::NotActive);
     }
     if v.exit_epoch.0 != FAR_FUTURE_EPOCH {
-        return answers::EXIT_BEGUN;
+        return Err(Refusal::ExitBegun);
     }
     if current_epoch.0 < epoch.0 {
-        return answers::STATED_EPOCH_AHEAD;
+        return Err(Refusal::StatedEpochAhead);
     }
     if current_epoch.0 < v.activation_epoch.0 + settings.shard_committee_period {
-        return answers::ACTIVE_TOO_SHORT;
+        return Err(Refusal::ActiveTooShort);
     }
-    let pending = helpers::lookups::get_pending_balance_to_withdraw(scalars, partials, i);
+    let pending = helpers::lookups::get_pending_balance_to_withdraw(scalars, books.partials, i);
     if pending.0 != 0 {
-        return answers::PARTIALS_WAITING;
+        return Err(Refusal::PartialsWaiting);
     }
     if !valid {
-        return answers::BAD_SIGNATURE;
+        return Err(Refusal::BadSignature);
     }
-    answers::DONE
+    Ok(())
 }
 
 pub fn process_voluntary_exit(
@@ -110,7 +102,7 @@ pub fn process_voluntary_exit(
     i: ValidatorIndex,
     epoch: Epoch,
     valid: bool,
-) -> Outcome
+) -> Result<Scalars, Refusal>
     requires { handed_refusal (settings_of settings)
         (books_of scalars
         (tables identities.now validators.old deposits.now partials.now consolidations.now))
@@ -121,13 +113,16 @@ pub fn process_voluntary_exit(
         partials.now consolidations.now)
         (tables identities.now validators.new deposits.now
         partials.now consolidations.now)
-        result.number result.scalars }
+        (answer_number result) (answer_or scalars result) }
 {
-    let number = voluntary_exit_refusal(
-        settings, scalars, identities, validators, partials, i, epoch, valid,
-    );
-    if number != answers::DONE {
-        return Outcome { number, scalars };
-    }
+    let books = Books {
+        scalars,
+        identities,
+        validators,
+        deposits,
+        partials,
+        consolidations,
+    };
+    voluntary_exit_refusal(settings, &books, i, epoch, valid)?;
     exit_within_bound(settings, scalars, validators, i)
 }

@@ -2,7 +2,7 @@
 use mathlib.Core.Path.{◌≡◌, ap, ap₂, sym, ◌∙◌}
 use mathlib.Core.List.{List, ◌∷◌}
 use Prim.Native.Nat.{ℕ, suc, ◌+◌, ◌-◌, ◌%◌, ◌≤◌, ◌<◌, min}
-use native.Mathlib.Nat.{mod-lt, sub-zero}
+use native.Mathlib.Nat.{mod-lt}
 use native.Mathlib.Omega.{arith}
 use lib.ListN.{drop}
 use Rattle.tables.specs.Rows.{rows, drop_rows_at, drop_rows_end}
@@ -17,8 +17,12 @@ use Rattle.expected_withdrawals.specs.declared.ExpectedWithdrawals.{ExpectedWith
 use Rattle.expected_withdrawals.specs.Expected.{no_withdrawals, expected_of}
 use Rattle.expected_withdrawals.specs.Listing.{with_partials_counted, list_partial, list_validator}
 use Rattle.expected_withdrawals.specs.Listing.{list_partials, list_swept}
+use Rattle.expected_withdrawals.specs.Laws.{full_amount, partial_taken, none_taken}
 use Rattle.expected_withdrawals.specs.Laws.{partials_end, partials_full, partials_stop, partials_step}
 use Rattle.expected_withdrawals.specs.Laws.{sweep_end, sweep_full, sweep_step, all_listed}
+
+-- what the sweep takes of one validator, by the tests of its record
+pub ruleset taken = (full_amount, partial_taken, none_taken)
 
 -- ---- the partial withdrawals
 
@@ -36,9 +40,6 @@ module _ (settings : Settings) (s : Scalars) (ids vs ps : List ℕ) where
   pub record Walking (e : ExpectedWithdrawals) (k : ℕ) : Type 0 where
     pub bound : k ≤ s.partials
     pub left : (ds cs : List ℕ) → left_of ds cs (drop k queue) e ≡ left_of ds cs queue no_withdrawals
-
-  pub walking_none : {e : ExpectedWithdrawals} → e ≡ no_withdrawals → Walking e 0
-  walking_none q = record { bound = omega arith; left = λ ds cs. ap (left_of ds cs queue) q }
 
   module _ {e : ExpectedWithdrawals} {k : ℕ} (w : Walking e k) where
     pub walked_full : settings.max_pending_partials_per_withdrawals_sweep ≤ e.count
@@ -99,11 +100,6 @@ module _ (settings : Settings) (s : Scalars) (ids vs : List ℕ) (listed : Expec
     pub inside : i < s.validators
     pub left : (ds ps cs : List ℕ) → swept ds ps cs (bound - k) i e ≡ whole ds ps cs
 
-  pub sweeping_none : {bound : ℕ} → bound ≡ min s.validators settings.max_validators_per_withdrawals_sweep
-      → s.next_withdrawal_validator_index.0 < s.validators
-      → Sweeping bound listed s.next_withdrawal_validator_index.0 0
-  sweeping_none q h = record { most = omega arith; inside = h; left = λ ds ps cs. rw sub-zero (rw q) }
-
   module _ {bound : ℕ} {e : ExpectedWithdrawals} {i k : ℕ} (w : Sweeping bound e i k) where
     pub swept_all : bound ≤ k → (ds ps cs : List ℕ) → e ≡ whole ds ps cs
     swept_all h ds ps cs =
@@ -147,16 +143,16 @@ module _ (settings : Settings) (s : Scalars) (ids vs ps : List ℕ) where
   pub together : {e r : ExpectedWithdrawals}
       → settings.max_pending_partials_per_withdrawals_sweep ≤ settings.max_withdrawals_per_payload
       → settings.max_withdrawals_per_payload ≤ 16
-      → ((ds cs : List ℕ) → e ≡ left_of settings s ids vs ps ds cs (queue settings s ids vs ps) no_withdrawals)
-      → ((ds ps cs : List ℕ) → r ≡ whole settings s ids vs (with_partials_counted e) ds ps cs)
-      → (ds cs : List ℕ) → r ≡ expected_of (settings_of settings) (books_of s (tables ids vs ds ps cs))
+      → (ds cs : List ℕ) → e ≡ left_of settings s ids vs ps ds cs (queue settings s ids vs ps) no_withdrawals
+      → r ≡ whole settings s ids vs (with_partials_counted e) ds ps cs
+      → r ≡ expected_of (settings_of settings) (books_of s (tables ids vs ds ps cs))
   unfolding books_of
-  together {e} m h p q ds cs =
+  together {e} m h ds cs p q =
       let t = tables ids vs ds ps cs in
-      q ds ps cs
+      q
       ∙ ap₂
       (λ n x.
       list_swept (settings_of settings) (books_of s t) (min n settings.max_validators_per_withdrawals_sweep)
       s.next_withdrawal_validator_index.0 (with_partials_counted x))
-      (sym (validators_count s t)) (p ds cs)
+      (sym (validators_count s t)) p
       ∙ all_listed (settings_of settings) (books_of s t) m h

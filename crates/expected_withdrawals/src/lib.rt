@@ -7,20 +7,18 @@ ghost use Rattle.rules.specs.BlockProcessing.{is_partial_payable, sweep_amount};
 ghost use Rattle.primitives.specs.Settings.{settings_of};
 ghost use Rattle.records.specs.Layout.{validator_at, balance_at, partial_at, identities_fit, validators_fit};
 ghost use Rattle.records.specs.Plain.{plain_partial};
-ghost use Rattle.records.specs.Books.{books_of, tables};
+ghost use Rattle.records.specs.Lent.{plain_books};
 ghost use Rattle.tables.specs.Rows.{rows};
 ghost use Rattle.expected_withdrawals.specs.Expected.{no_withdrawals, coded_withdrawal, expected_of};
-ghost use Rattle.expected_withdrawals.specs.Listing.{withdrawal_of, may_withdraw};
+ghost use Rattle.expected_withdrawals.specs.Listing.{with_withdrawal, withdrawal_of, may_withdraw};
 ghost use Rattle.expected_withdrawals.specs.Listing.{partial_amount, list_partials, list_swept};
 ghost use Rattle.expected_withdrawals.specs.Ready.{SweepReady, Ready};
 
-use primitives::{
-    Epoch, FAR_FUTURE_EPOCH, Gwei, Scalars, Settings, ValidatorIndex, WithdrawalIndex, min,
-    min_usize,
-};
+use primitives::{Epoch, FAR_FUTURE_EPOCH, Gwei, Settings, ValidatorIndex, WithdrawalIndex};
+use records::books::Books;
 use records::queues::PendingPartialWithdrawal;
 
-#[derive(Clone, Copy)]
+#[derive(Clone, Copy, Debug, PartialEq, Eq)]
 pub struct Withdrawal {
     pub index: WithdrawalIndex,
     pub validator_index: ValidatorIndex,
@@ -30,6 +28,7 @@ pub struct Withdrawal {
 
 // Of the sixteen records the first `count` are withdrawals and the others are blank; of the withdrawals the first
 // `partials` are partial withdrawals.
+// The array with its counts stays: the project's scope names this form (docs/FORMS.md).
 #[derive(Clone, Copy)]
 pub struct ExpectedWithdrawals {
     pub list: [Withdrawal; 16],
@@ -53,23 +52,27 @@ impl ExpectedWithdrawals {
             partials: 0,
         }
     }
+
+    // One withdrawal more.
+    fn push(&mut self, w: Withdrawal)
+        requires { self.old.count < 16 }
+        ensures { self.new ≡ with_withdrawal self.old w }
+    {
+        self.list[self.count] = w;
+        self.count += 1;
+    }
 }
 
-// The withdrawal behind `count` others, of validator i; `first` is the index of the first one.
-fn withdrawal_of(
-    first: WithdrawalIndex,
-    count: usize,
-    identities: &[u8],
-    validators: &[u64],
-    i: ValidatorIndex,
-    amount: Gwei,
-) -> Withdrawal
-    requires room { (count < 16) × (first.0 ≤ 2 ^ 62) }
-    requires held { (i.0 < identities_fit identities.now) × (i.0 < validators_fit validators.now) }
-    ensures { result ≡ coded_withdrawal (withdrawal_of first.0 count i.0
-        (validator_at identities.now validators.now i.0) amount.0) }
+// The withdrawal behind `count` others, of validator i.
+fn withdrawal_of(books: &Books<'_>, count: usize, i: ValidatorIndex, amount: Gwei) -> Withdrawal
+    requires room { (count < 16) × (books.now.scalars.next_withdrawal_index.0 ≤ 2 ^ 62) }
+    requires held { (i.0 < identities_fit books.now.identities.now)
+        × (i.0 < validators_fit books.now.validators.now) }
+    ensures { result ≡ coded_withdrawal (withdrawal_of books.now.scalars.next_withdrawal_index.0 count i.0
+        (validator_at books.now.identities.now books.now.validators.now i.0) amount.0) }
 {
-    let v = records::registry::validator_at(identities, validators, i);
+    let first = books.scalars.next_withdrawal_index;
+    let v = records::registry::validator_at(books.identities, books.validators, i);
     let address = v.withdrawal_address();
     Withdrawal {
         index: WithdrawalIndex(first.0 + count as u64),
@@ -80,6 +83,7 @@ fn withdrawal_of(
 }
 
 // Whether a waiting partial withdrawal of validator i is paid.
+#[tactic(auto, unfolding(rules::specs::BlockProcessing::is_partial_payable))]
 fn is_partial_payable(settings: Settings, validators: &[u64], i: ValidatorIndex) -> bool
     requires { i.0 < validators_fit validators.now }
     ensures { (ids : List ℕ)
@@ -89,7 +93,7 @@ fn is_partial_payable(settings: Settings, validators: &[u64], i: ValidatorIndex)
     let exit = records::registry::exit_epoch_at(validators, i);
     let effective = records::registry::effective_balance_at(validators, i);
     let balance = records::registry::balance_at(validators, i);
-    exit.0 == FAR_FUTURE_EPOCH && (least.0 <= effective.0 && least.0 < balance.0)
+    exit.0 == FAR_FUTURE_EPOCH && (least <= effective && least < balance)
 }
 
 // What a partial withdrawal that is paid takes: no more than stands above the minimum.
@@ -103,7 +107,7 @@ fn partial_amount(settings: Settings, validators: &[u64], p: PendingPartialWithd
     let i = p.index;
     let balance = records::registry::balance_at(validators, i);
     let above = balance.0 - settings.min_activation_balance.0;
-    min(Gwei(above), p.amount)
+    Gwei(above.min(p.amount.0))
 }
 
 // Whether the sweep may take something of validator i, by three of its words. Most validators are passed so, and the
@@ -115,25 +119,21 @@ fn may_withdraw(epoch: Epoch, validators: &[u64], i: ValidatorIndex) -> bool
     let withdrawable = records::registry::withdrawable_epoch_at(validators, i);
     let effective = records::registry::effective_balance_at(validators, i);
     let balance = records::registry::balance_at(validators, i);
-    withdrawable.0 <= epoch.0 || effective.0 < balance.0
+    withdrawable <= epoch || effective < balance
 }
 
 // What the sweep takes of validator i.
-fn sweep_amount(
-    settings: Settings,
-    epoch: Epoch,
-    identities: &[u8],
-    validators: &[u64],
-    i: ValidatorIndex,
-) -> Gwei
-    requires { (i.0 < identities_fit identities.now) × (i.0 < validators_fit validators.now) }
-    ensures { result.0 ≡ sweep_amount (settings_of settings) epoch.0
-        (validator_at identities.now validators.now i.0) }
+#[tactic(auto, using(crate::proofs::Walk::taken))]
+fn sweep_amount(settings: Settings, books: &Books<'_>, i: ValidatorIndex) -> Gwei
+    requires { (i.0 < identities_fit books.now.identities.now) × (i.0 < validators_fit books.now.validators.now) }
+    ensures { result.0 ≡ sweep_amount (settings_of settings) books.now.scalars.epoch.0
+        (validator_at books.now.identities.now books.now.validators.now i.0) }
 {
-    if !may_withdraw(epoch, validators, i) {
+    let epoch = books.scalars.epoch;
+    if !may_withdraw(epoch, books.validators, i) {
         return Gwei(0);
     }
-    let v = records::registry::validator_at(identities, validators, i);
+    let v = records::registry::validator_at(books.identities, books.validators, i);
     if v.is_fully_withdrawable_validator(epoch) {
         return v.balance;
     }
@@ -145,41 +145,29 @@ fn sweep_amount(
 }
 
 // The waiting partial withdrawals that are paid.
-fn partial_withdrawals(
-    settings: Settings,
-    scalars: Scalars,
-    identities: &[u8],
-    validators: &[u64],
-    partials: &[u64],
-) -> ExpectedWithdrawals
-    requires { Ready settings scalars identities.now validators.now partials.now }
-    ensures { (ds cs : List ℕ)
-        → result ≡ list_partials (settings_of settings)
-        (books_of scalars (tables identities.now validators.now ds partials.now cs))
-        (rows scalars.partials (partial_at partials.now)) no_withdrawals }
+fn partial_withdrawals(settings: Settings, books: &Books<'_>) -> ExpectedWithdrawals
+    requires { Ready settings books.now.scalars books.now.identities.now books.now.validators.now books.now.partials.now }
+    ensures { result ≡ list_partials (settings_of settings) (plain_books books.now)
+        (rows books.now.scalars.partials (partial_at books.now.partials.now)) no_withdrawals }
 {
+    let scalars = books.scalars;
     let most = settings.max_pending_partials_per_withdrawals_sweep;
-    let first = scalars.next_withdrawal_index;
     let n = scalars.partials;
     let mut e = ExpectedWithdrawals::none();
-    let mut k = 0;
-    while k < n {
+    for k in 0..n {
         if most <= e.count {
             return e;
         }
-        let p = records::queues::partial_at(partials, k);
+        let p: PendingPartialWithdrawal = records::queues::entry_at(books.partials, k);
         if scalars.epoch.0 < p.withdrawable_epoch.0 {
             return e;
         }
         let i = p.index;
-        if is_partial_payable(settings, validators, i) {
-            let amount = partial_amount(settings, validators, p);
-            let w = withdrawal_of(first, e.count, identities, validators, i, amount);
-            let count = e.count;
-            e.list[count] = w;
-            e.count = count + 1;
+        if is_partial_payable(settings, books.validators, i) {
+            let amount = partial_amount(settings, books.validators, p);
+            let w = withdrawal_of(books, e.count, i, amount);
+            e.push(w);
         }
-        k += 1;
     }
     e
 }
@@ -200,70 +188,41 @@ fn index_after(i: usize, n: usize) -> usize
 // The sweep around the registry, behind the withdrawals that are listed.
 fn sweep_withdrawals(
     settings: Settings,
-    scalars: Scalars,
-    identities: &[u8],
-    validators: &[u64],
+    books: &Books<'_>,
     listed: ExpectedWithdrawals,
 ) -> ExpectedWithdrawals
-    requires { SweepReady settings scalars identities.now validators.now }
-    ensures { (ds ps cs : List ℕ)
-        → result ≡ list_swept (settings_of settings)
-        (books_of scalars (tables identities.now validators.now ds ps cs))
-        (min scalars.validators settings.max_validators_per_withdrawals_sweep)
-        scalars.next_withdrawal_validator_index.0 listed }
+    requires { SweepReady settings books.now.scalars books.now.identities.now books.now.validators.now }
+    ensures { result ≡ list_swept (settings_of settings) (plain_books books.now)
+        (min books.now.scalars.validators settings.max_validators_per_withdrawals_sweep)
+        books.now.scalars.next_withdrawal_validator_index.0 listed }
 {
+    let scalars = books.scalars;
     let most = settings.max_withdrawals_per_payload;
-    let first = scalars.next_withdrawal_index;
     let cursor = scalars.next_withdrawal_validator_index;
     let n = scalars.validators;
-    let bound = min_usize(n, settings.max_validators_per_withdrawals_sweep);
+    let bound = n.min(settings.max_validators_per_withdrawals_sweep);
     let mut e = listed;
     let mut i = cursor.0;
-    let mut k = 0;
-    while k < bound {
+    for _k in 0..bound {
         if most <= e.count {
             return e;
         }
-        let amount = sweep_amount(
-            settings,
-            scalars.epoch,
-            identities,
-            validators,
-            ValidatorIndex(i),
-        );
+        let amount = sweep_amount(settings, books, ValidatorIndex(i));
         if 0 < amount.0 {
-            let w = withdrawal_of(
-                first,
-                e.count,
-                identities,
-                validators,
-                ValidatorIndex(i),
-                amount,
-            );
-            let count = e.count;
-            e.list[count] = w;
-            e.count = count + 1;
+            let w = withdrawal_of(books, e.count, ValidatorIndex(i), amount);
+            e.push(w);
         }
         i = index_after(i, n);
-        k += 1;
     }
     e
 }
 
 // The partial withdrawals, and then the sweep.
-pub fn get_expected_withdrawals(
-    settings: Settings,
-    scalars: Scalars,
-    identities: &[u8],
-    validators: &[u64],
-    partials: &[u64],
-) -> ExpectedWithdrawals
-    requires { Ready settings scalars identities.now validators.now partials.now }
-    ensures { (ds cs : List ℕ)
-        → result ≡ expected_of (settings_of settings)
-        (books_of scalars (tables identities.now validators.now ds partials.now cs)) }
+pub fn get_expected_withdrawals(settings: Settings, books: &Books<'_>) -> ExpectedWithdrawals
+    requires { Ready settings books.now.scalars books.now.identities.now books.now.validators.now books.now.partials.now }
+    ensures { result ≡ expected_of (settings_of settings) (plain_books books.now) }
 {
-    let mut e = partial_withdrawals(settings, scalars, identities, validators, partials);
+    let mut e = partial_withdrawals(settings, books);
     e.partials = e.count;
-    sweep_withdrawals(settings, scalars, identities, validators, e)
+    sweep_withdrawals(settings, books, e)
 }

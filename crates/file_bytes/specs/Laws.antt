@@ -1,12 +1,12 @@
 -- The facts that the reads of a field's bytes are proved by.
-use Rattle.std.specs.Prelude.{◌≡◌, refl, Bool, true, false, List, ◌++◌, ℕ, zero, suc, ◌+◌, ◌*◌, ◌/◌, ◌%◌, ◌^◌, ◌≤◌, ◌<◌, eqb, ltb, length, set, take, drop, replicate}
+use Rattle.std.specs.Prelude.{◌≡◌, refl, Bool, true, false, List, [], ◌∷◌, ◌++◌, ℕ, zero, suc, ◌+◌, ◌*◌, ◌/◌, ◌%◌, ◌^◌, ◌≤◌, ◌<◌, eqb, ltb, length, take, drop}
 use Rattle.std.proofs.Math.Path.{sym}
-use Rattle.std.proofs.Common.{ap, ◌∙◌, append-nil, add-one, length-set, length-drop, drop_of_length-le, get_or-drop, take_all}
+use Rattle.std.proofs.Common.{ap, ◌∙◌, append-nil, append_assoc, add-one, zero-add, length-drop, length-take-le, drop_of_length-le, drop-drop, drop-cons, drop_at, get_or-drop, take_all, take_at}
 use native.Mathlib.Omega.{arith}
 use borrow.Author.Tests.{ltb-true, ltb-false}
 use Rattle.std.proofs.Math.ListN.{get_or, get_or-eq_default}
-use Rattle.std.proofs.lemmas.List.{length-replicate}
-use Rattle.std.proofs.Math.Seq.{paste, paste-zero, paste-suc}
+use Rattle.std.proofs.Math.Seq.{paste, take-add}
+use borrow.Rule.Slice.PartMut.{put_mid}
 use Rattle.lists.specs.Base.{when◌then◌else◌}
 use Rattle.lists.specs.Laws.{both}
 use Rattle.file_format.specs.Words.{words, payload}
@@ -14,21 +14,35 @@ use Rattle.file_format.specs.Fields.{field, field_ok, is_three_bytes, first, sec
 use Rattle.file_format.proofs.FieldsLaws.{field_only, impossible}
 use Rattle.file_format.proofs.PlacesLaws.{field_at, length_words, word_at}
 
--- ---- j bytes of s stand in m from `at` on, which else holds what l holds
+-- ---- the first j bytes of s stand at the start of m, and behind them m holds what l holds
 
-pub record Put (l : List ℕ) (at : ℕ) (s : List ℕ) (j : ℕ) (m : List ℕ) : Type 0 where
-  pub size : length m ≡ length l
-  pub bytes : m ≡ paste l at s j
+at_start : (l s : List ℕ) (j : ℕ) → paste l 0 s j ≡ take j s ++ drop j l
+at_start l s j = ap (λ q. take j s ++ drop q l) (zero-add j)
 
-pub put_none : {l : List ℕ} {at : ℕ} {s : List ℕ} → Put l at s 0 l
-put_none {l} {at} {s} = record { size = refl; bytes = paste-zero l at s }
+-- w more, from j on
+pub put_more : (l s m ys : List ℕ) (j w i : ℕ) → j ≤ length s → m ≡ paste l 0 s j → ys ≡ take w (drop j s) → j + w ≡ i
+    → put_mid j w m ys ≡ paste l 0 s i
+put_more l s m ys j w i h e p q =
+    let held = e ∙ at_start l s j in
+    let size : length (take j s) ≡ j = length-take-le j s h in
+    let front : take j m ≡ take j s = ap (take j) held ∙ take_at (take j s) (drop j l) j size in
+    let rest : drop j m ≡ drop j l = ap (drop j) held ∙ drop_at (take j s) (drop j l) j size in
+    let part = take w (drop j s) in
+    (λ n. front n ++ (p n ++ drop w (rest n)))
+    ∙ ap (λ r. take j s ++ (part ++ r)) (drop-drop w j l)
+    ∙ sym (append_assoc (take j s) part (drop (j + w) l))
+    ∙ ap (λ r. r ++ drop (j + w) l) (sym (take-add j w s))
+    ∙ ap (λ n. take n s ++ drop n l) q
+    ∙ sym (at_start l s i)
 
-pub put_byte : {l : List ℕ} {at : ℕ} {s : List ℕ} {j : ℕ} {m : List ℕ} {p x : ℕ} → p ≡ at + j → at + j < length l
-    → j < length s → x ≡ get_or s j 0 → Put l at s j m → Put l at s (j + 1) (set m p x)
-put_byte {l} {at} {s} {j} {m} {p} {x} e h g v t = record {
-  size = length-set m p x ∙ t.size;
-  bytes = rw add-one ((λ i. set (t.bytes i) (e i) (v i)) ∙ paste-suc l at s j 0 h g);
-}
+-- all bytes of s were put
+pub put_all : (l s m : List ℕ) (n : ℕ) → length l ≤ n → length s ≤ n → m ≡ paste l 0 s n → m ≡ s
+put_all l s m n h g e =
+    e ∙ at_start l s n ∙ ap (λ r. take n s ++ r) (drop_of_length-le l {i = n} h) ∙ append-nil (take n s) ∙ take_all n s g
+
+one_more : (s : List ℕ) (j r x : ℕ) (ys : List ℕ) → j < length s → x ≡ get_or s j 0 → ys ≡ take r (drop (j + 1) s)
+    → x ∷ ys ≡ take (suc r) (drop j s)
+one_more s j r x ys h e p = (λ i. e i ∷ p i) ∙ rw add-one (sym (ap (take (suc r)) (drop-cons s j 0 h)))
 
 -- ---- the words of a field that was judged good
 
@@ -112,34 +126,24 @@ module _ (bs : List ℕ) (k n : ℕ) (e : (field n).ok (drop k (words bs)) ≡ t
           let x : get_or bs at 0 ≡ third w = omega (arith, the_word) in
           x ∙ sym (field_at n (i * 3 + 2) us l ∙ (rw (q, p)))
 
-      -- its bytes put behind those of the words before it
-      module _ {l : List ℕ} {to : ℕ} {m : List ℕ} (fits : to + n ≤ length l) where
-        pub put_first : Put l to ((field n).value us) (i * 3) m
-            → Put l to ((field n).value us) (i * 3 + 1) (set m (to + i * 3) (get_or bs (at + 2) 0))
-        put_first = put_byte refl (omega arith) (omega (arith, field_size)) first_byte
-
-        pub put_second : i * 3 + 1 < n → Put l to ((field n).value us) (i * 3 + 1) m
-            → Put l to ((field n).value us) (i * 3 + 2) (set m (to + i * 3 + 1) (get_or bs (at + 1) 0))
-        put_second g t =
-            let q : i * 3 + 1 + 1 ≡ i * 3 + 2 = omega arith in
-            let long = field_size in
-            rw q at (put_byte {p = to + i * 3 + 1} (omega arith) (omega arith) (omega arith) (second_byte g) t)
-
-        pub put_third : i * 3 + 2 < n → Put l to ((field n).value us) (i * 3 + 2) m
-            → Put l to ((field n).value us) ((i + 1) * 3) (set m (to + i * 3 + 2) (get_or bs at 0))
-        put_third g t =
-            let q : i * 3 + 2 + 1 ≡ (i + 1) * 3 = omega arith in
-            let long = field_size in
-            rw q at (put_byte {p = to + i * 3 + 2} (omega arith) (omega arith) (omega arith) (third_byte g) t)
-
--- a field that fills an array
-pub put_whole : (bs : List ℕ) (k n : ℕ) → (field n).ok (drop k (words bs)) ≡ true → {m : List ℕ}
-    → m ≡ paste (replicate n 0) 0 ((field n).value (drop k (words bs))) n → m ≡ (field n).value (drop k (words bs))
-put_whole bs k n e p =
-    let s = (field n).value (drop k (words bs)) in
-    let zeros : List ℕ = replicate n 0 in
-    let none = drop_of_length-le zeros {i = 0 + n} (omega (arith, length-replicate {A = ℕ} n 0)) in
-    p
-    ∙ ap (λ r. take n s ++ r) none
-    ∙ append-nil (take n s)
-    ∙ take_all n s (omega (arith, field_size bs k n e))
+      -- the first r of them are those of the field
+      pub word_bytes : (r : ℕ) → i * 3 + r ≤ n → r ≤ 3
+          → take r (get_or bs (at + 2) 0 ∷ get_or bs (at + 1) 0 ∷ get_or bs at 0 ∷ [])
+          ≡ take r (drop (i * 3) ((field n).value us))
+      word_bytes zero g l = refl
+      word_bytes (suc zero) g l =
+          let long = field_size in
+          one_more ((field n).value us) (i * 3) 0 _ [] (omega arith) first_byte refl
+      word_bytes (suc (suc zero)) g l =
+          let long = field_size in
+          let s = (field n).value us in
+          one_more s (i * 3) 1 _ _ (omega arith) first_byte
+          (one_more s (i * 3 + 1) 0 _ [] (omega arith) (second_byte (omega arith)) refl)
+      word_bytes (suc (suc (suc zero))) g l =
+          let long = field_size in
+          let s = (field n).value us in
+          let q : i * 3 + 2 ≡ i * 3 + 1 + 1 = omega arith in
+          one_more s (i * 3) 2 _ _ (omega arith) first_byte
+          (one_more s (i * 3 + 1) 1 _ _ (omega arith) (second_byte (omega arith))
+          (one_more s (i * 3 + 1 + 1) 0 _ [] (omega arith) (rw q at (third_byte (omega arith))) refl))
+      word_bytes (suc (suc (suc (suc r)))) g l = let z : ⊥ = omega arith in absurd z

@@ -3,15 +3,53 @@
 
 #![tactic(auto)]
 
-mod balances; // codes 1 to 3
-mod exits; // codes 4 to 6
-mod periodic; // codes 7 and 8
-
+ghost use Rattle.std.specs.Prelude.{◌≡◌};
+ghost use Rattle.primitives.specs.Answers.{answer_number, answer_or};
 ghost use Rattle.primitives.specs.Settings.{settings_of};
 ghost use Rattle.records.specs.Books.{tables, Called};
+ghost use Rattle.file_format.specs.Words.{words};
+ghost use Rattle.calls_reader.specs.Widths.{code_at};
 ghost use Rattle.file_calls.specs.Ready.{Accepted, Holds, CallAt, operation_at};
 
-use primitives::{Gwei, Outcome, Scalars, Settings};
+use calls_reader::Kind;
+use primitives::answers::Refusal;
+use primitives::{Gwei, Scalars, Settings};
+
+// In a function of its own: as an arm of the match it made a reward take 24 ns, not 17.
+fn withdrawals(
+    settings: Settings,
+    scalars: Scalars,
+    identities: &[u8],
+    validators: &mut [u64],
+    deposits: &[u64],
+    partials: &mut [u64],
+    consolidations: &[u64],
+    file: &[u8],
+    k: usize,
+) -> Result<Scalars, Refusal>
+    requires accepted { Accepted (settings_of settings) scalars
+        (tables identities.now validators.old deposits.now partials.old consolidations.now) }
+    requires call_at { CallAt file.now k }
+    requires code { code_at (words file.now) k ≡ 8 }
+    ensures { Called (settings_of settings) (operation_at file.now k) scalars
+        (tables identities.now validators.old deposits.now
+        partials.old consolidations.now)
+        (tables identities.now validators.new deposits.now
+        partials.new consolidations.now) (answer_number result) (answer_or scalars result) }
+{
+    let paid = calls_reader::withdrawals_at(file, k);
+    operations::payments::process_withdrawals_accepted(
+        settings,
+        scalars,
+        identities,
+        validators,
+        deposits,
+        partials,
+        consolidations,
+        paid.list,
+        paid.count,
+    )
+}
 
 pub fn carry_out_call(
     settings: Settings,
@@ -24,7 +62,7 @@ pub fn carry_out_call(
     sum: Gwei,
     file: &[u8],
     k: usize,
-) -> Outcome
+) -> Result<Scalars, Refusal>
     requires accepted { Accepted (settings_of settings) scalars
         (tables identities.old validators.old deposits.old partials.old consolidations.old) }
     requires call_at { CallAt file.now k }
@@ -34,11 +72,106 @@ pub fn carry_out_call(
         (tables identities.old validators.old deposits.old
         partials.old consolidations.old)
         (tables identities.new validators.new deposits.new
-        partials.new consolidations.new) result.number result.scalars }
+        partials.new consolidations.new) (answer_number result) (answer_or scalars result) }
 {
-    let code = calls_reader::code_at(file, k);
-    if code <= 3 {
-        return balances::carry_out(
+    // By kind, not by `call_at`: copying a `Call`, with room for sixteen withdrawals, made a reward take 69 ns, not 17.
+    match calls_reader::kind_at(file, k) {
+        Kind::Reward => {
+            let reward = calls_reader::amount_at(file, k);
+            let sums = acceptance::sum_within(sum, reward.amount);
+            rewards::reward::reward_accepted(
+                settings,
+                scalars,
+                identities,
+                validators,
+                deposits,
+                partials,
+                consolidations,
+                reward.i,
+                reward.amount,
+                sums,
+            )
+        }
+        Kind::Penalty => {
+            let penalty = calls_reader::amount_at(file, k);
+            rewards::penalty::penalty_accepted(
+                settings,
+                scalars,
+                identities,
+                validators,
+                deposits,
+                partials,
+                consolidations,
+                penalty.i,
+                penalty.amount,
+            )
+        }
+        Kind::DepositReceipt => {
+            let receipt = calls_reader::receipt_at(file, k);
+            let sums = acceptance::sum_within(sum, receipt.amount);
+            receipt_operations::process_deposit_receipt(
+                settings,
+                scalars,
+                identities,
+                validators,
+                deposits,
+                partials,
+                consolidations,
+                receipt.public_key,
+                receipt.withdrawal_credentials,
+                receipt.amount,
+                receipt.index,
+                receipt.valid,
+                sums,
+            )
+        }
+        Kind::VoluntaryExit => {
+            let exit = calls_reader::exit_at(file, k);
+            exit_operations::process_voluntary_exit(
+                settings,
+                scalars,
+                identities,
+                validators,
+                deposits,
+                partials,
+                consolidations,
+                exit.i,
+                exit.epoch,
+                exit.valid,
+            )
+        }
+        Kind::WithdrawalRequest => {
+            let request = calls_reader::request_at(file, k);
+            request_operations::process_execution_layer_withdrawal_request(
+                settings,
+                scalars,
+                identities,
+                validators,
+                deposits,
+                partials,
+                consolidations,
+                request.source_address,
+                request.public_key,
+                request.amount,
+            )
+        }
+        Kind::Consolidation => {
+            let asked = calls_reader::consolidation_at(file, k);
+            consolidation_operations::process_consolidation(
+                settings,
+                scalars,
+                identities,
+                validators,
+                deposits,
+                partials,
+                consolidations,
+                asked.source_index,
+                asked.target_index,
+                asked.epoch,
+                asked.valid,
+            )
+        }
+        Kind::Turn => epoch_turns::turn_accepted(
             settings,
             scalars,
             identities,
@@ -46,13 +179,8 @@ pub fn carry_out_call(
             deposits,
             partials,
             consolidations,
-            sum,
-            file,
-            k,
-        );
-    }
-    if code <= 6 {
-        return exits::carry_out(
+        ),
+        Kind::Withdrawals => withdrawals(
             settings,
             scalars,
             identities,
@@ -62,17 +190,6 @@ pub fn carry_out_call(
             consolidations,
             file,
             k,
-        );
+        ),
     }
-    periodic::carry_out(
-        settings,
-        scalars,
-        identities,
-        validators,
-        deposits,
-        partials,
-        consolidations,
-        file,
-        k,
-    )
 }

@@ -1,4 +1,5 @@
 pub mod Scalars
 pub mod Laws
+pub mod Sizes
 pub mod Lists
 pub mod Books

@@ -5,7 +5,7 @@ ghost use Rattle.file_format.specs.File.{read_books};
 ghost use Rattle.slices.specs.Exported.{fit};
 ghost use Rattle.file_slices.specs.Read.{unfit_opened, ExportedRead};
 
-use primitives::answers;
+use primitives::answers::{self, Refusal};
 
 fn read_fits(settings: &[u64], scalars: &[u64]) -> bool
     ensures { result ≡ fit scalars.now (leb 19 (length settings.now) ∷ []) }
@@ -18,7 +18,7 @@ fn unfit_answer(file: &[u8]) -> u8
     ensures { result ≡ unfit_opened (read_books file.now) }
 {
     if !books_file::books_file_ok(file) {
-        return answers::BROKEN_FILE;
+        return Refusal::BrokenFile.number();
     }
     slices::unfit_answer(file_records::settings_at(file))
 }

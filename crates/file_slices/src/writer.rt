@@ -3,6 +3,7 @@ ghost use Rattle.records.specs.Books.{tables};
 ghost use Rattle.file_slices.specs.Written.{ExportedWritten};
 
 use primitives::answers;
+use records::books::Books;
 
 // `written` is how many bytes the file has.
 pub fn write_books(
@@ -26,19 +27,19 @@ pub fn write_books(
         return slices::unfit_answer(chain);
     }
     let numbers = slices::scalars_from(scalars);
-    let file = books_writer::write_books(
-        chain,
-        numbers,
+    let books = Books {
+        scalars: numbers,
         identities,
         validators,
         deposits,
         partials,
         consolidations,
-        out,
-    );
-    if file.number != answers::DONE {
-        return file.number;
+    };
+    match books_writer::write_books(chain, &books, out) {
+        Ok(length) => {
+            *written = length as u64;
+            answers::DONE
+        }
+        Err(refusal) => refusal.number(),
     }
-    *written = file.length as u64;
-    file.number
 }

@@ -1,19 +1,20 @@
 -- The facts that the stores of fields are proved by, and that their callers join them by.
-use Rattle.std.specs.Prelude.{◌≡◌, refl, Bool, true, false, List, [], ◌∷◌, ◌++◌, get_or, set, take, drop}
+use Rattle.std.specs.Prelude.{◌≡◌, refl, Bool, true, false, List, [], ◌∷◌, ◌++◌, get_or, take, drop}
 use Rattle.std.proofs.Math.Path.{sym, ap}
-use Rattle.std.proofs.Common.{◌∙◌, append_assoc, append-nil, mul-le-mul_right, add-one, take-append-drop, take_at}
+use Rattle.std.proofs.Common.{◌∙◌, append_assoc, append-nil, mul-le-mul_right, add-one, take-append-drop, take_at, drop-drop}
 use Prim.Native.Nat.{ℕ, zero, suc, ◌+◌, ◌*◌, ◌/◌, ◌%◌, ◌^◌, ◌≤◌, ◌<◌}
-use Rattle.std.proofs.Math.Numerals.{towards_suc}
 use native.Mathlib.Omega.{arith}
-use Rattle.std.proofs.Math.ListN.{length, length-append, get_or-eq_default}
+use Rattle.std.proofs.Math.ListN.{length, length-append}
+use Rattle.std.specs.Int.{w32, from_bool, to_le_bytes}
+use borrow.Rule.Slice.PartMut.{put_mid}
 use Rattle.tables.specs.Rows.{rows, rows_snoc, rows_getD, rows_ext}
-use Rattle.file_format.specs.Words.{word, words, bytes, end_word, with_end, wrapping_sum}
+use Rattle.file_format.specs.Words.{word, words, bytes, end_word, with_end}
 use Rattle.file_format.specs.Fields.{number, flag, three_bytes, field_words, each}
 use Rattle.file_format.specs.Calls.{signature}
 use Rattle.file_format.specs.Answers.{over}
 use Rattle.file_format.proofs.FileLaws.{words_front, length_bytes}
 use Rattle.file_format.specs.PutLaws.{put}
-use Rattle.file_format.proofs.PutLaws.{put_put, put_word, length_put}
+use Rattle.file_format.proofs.PutLaws.{put_put, length_put}
 
 -- ---- one group of words behind another
 
@@ -38,12 +39,18 @@ put_length out last k ws e h = ap length e ∙ length_put out k ws h
 
 -- ---- one word, and a number
 
-pub word_put : (out : List ℕ) (k w : ℕ) → (k + 1) * 4 ≤ length out
-    → set
-    (set (set (set out (k * 4) (w % 256)) (k * 4 + 1) (w / 256 % 256)) (k * 4 + 2) (w / 256 / 256 % 256))
-    (k * 4 + 3) (w / 256 / 256 / 256)
-    ≡ put out k (w ∷ [])
-word_put out k w h = simp towards_suc (put_word out k w h)
+-- the bytes of a word in their place
+pub word_put : (out bs : List ℕ) (k w n : ℕ) → n ≡ 4 → w < 2 ^ 32 → bs ≡ to_le_bytes w32 w
+    → put_mid (k * 4) n out bs ≡ put out k (w ∷ [])
+unfolding put
+word_put out bs k w n e h p =
+    let b : w / 256 ^ 1 % 256 ≡ w / 256 % 256 = omega arith in
+    let c : w / 256 ^ 2 % 256 ≡ w / 256 / 256 % 256 = omega arith in
+    let d : w / 256 ^ 3 % 256 ≡ w / 256 / 256 / 256 = omega arith in
+    let four : to_le_bytes w32 w ≡ bytes (w ∷ []) = λ j. w % 256 ∷ b j ∷ c j ∷ d j ∷ [] in
+    let rest : drop n (drop (k * 4) out) ≡ drop (k * 4 + 4) out = rw e (drop-drop 4 (k * 4) out) in
+    let all = p ∙ four in
+    λ j. take (k * 4) out ++ (all j ++ rest j)
 
 pub number_put : (out o₁ o₂ o₃ : List ℕ) (k n : ℕ) → (k + 3) * 4 ≤ length out
     → o₁ ≡ put out k ((0x30000000 + n % 0x10000000) ∷ [])
@@ -65,15 +72,10 @@ pub flag_put : (out last : List ℕ) (k f : ℕ) → last ≡ put out k ((0x7000
 unfolding flag
 flag_put out last k f e = e
 
-pub good_put : (out last : List ℕ) (k : ℕ) (valid : Bool) → valid ≡ true → last ≡ put out k (0x70000001 ∷ [])
-    → last ≡ put out k (signature.write valid)
-unfolding flag
-good_put out last k valid e f = rw e f
-
-pub bad_put : (out last : List ℕ) (k : ℕ) (valid : Bool) → valid ≡ false → last ≡ put out k (0x70000000 ∷ [])
-    → last ≡ put out k (signature.write valid)
-unfolding flag
-bad_put out last k valid e f = rw e f
+pub signature_put : (out last : List ℕ) (k f : ℕ) (valid : Bool) → f ≡ from_bool valid
+    → last ≡ put out k (flag.write f) → last ≡ put out k (signature.write valid)
+signature_put out last k f true e p = p ∙ ap (λ n. put out k (flag.write n)) e
+signature_put out last k f false e p = p ∙ ap (λ n. put out k (flag.write n)) e
 
 -- ---- a loop over records of m words each
 
@@ -140,9 +142,6 @@ numbers_done xs out last k i h l e =
     e ∙ ap (λ ys. put out k (each number.write ys)) (rows_getD xs i 0 (omega arith))
 
 -- ---- a field of bytes
-
-pub byte_none : (xs : List ℕ) (j : ℕ) → length xs ≤ j → 0 ≡ get_or xs j 0
-byte_none xs j h = sym (get_or-eq_default xs 0 {n = j} h)
 
 -- word i of a field
 unfoldable pub field_word : List ℕ → ℕ → ℕ
@@ -216,11 +215,6 @@ unfolding put
 words_put out ws n e =
     let rest = drop (0 * 4 + length ws * 4) out in
     ap (take n) (words_front ws rest) ∙ take_at ws (words rest) n (sym e)
-
-pub end_put : (out last : List ℕ) (n s : ℕ) → s ≡ wrapping_sum (take n (words out))
-    → last ≡ put out n ((0x80000000 + s % 0x10000000) ∷ [])
-    → last ≡ put out n (end_word (take n (words out)) ∷ [])
-end_put out last n s e f = f ∙ ap (λ t. put out n (word 8 (t % 2 ^ 28) ∷ [])) e
 
 -- the end word closes the words that were put
 pub put_closed : (out mid last : List ℕ) (ws : List ℕ) (n : ℕ) → mid ≡ put out 0 ws → n ≡ length ws

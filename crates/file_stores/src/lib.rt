@@ -16,10 +16,7 @@ pub fn put_word(out: &mut [u8], k: usize, w: u32)
     ensures { out.new ≡ put out.old k (w ∷ []) }
 {
     let at = k * 4;
-    out[at] = (w % 256) as u8;
-    out[at + 1] = (w / 256 % 256) as u8;
-    out[at + 2] = (w / 256 / 256 % 256) as u8;
-    out[at + 3] = (w / 256 / 256 / 256) as u8;
+    out[at..at + 4].copy_from_slice(&w.to_le_bytes());
 }
 
 // A count, kind 2.
@@ -45,11 +42,7 @@ pub fn put_signature(out: &mut [u8], k: usize, valid: bool)
     requires { (k + 1) * 4 ≤ length out.old }
     ensures { out.new ≡ put out.old k (signature.write valid) }
 {
-    if valid {
-        put_word(out, k, 0x7000_0001);
-    } else {
-        put_word(out, k, 0x7000_0000);
-    }
+    put_flag(out, k, u64::from(valid));
 }
 
 // ---- numbers, kinds 3, 4, 5
@@ -76,10 +69,8 @@ pub fn put_numbers(out: &mut [u8], k: usize, from: &[u64])
     requires { (k + length from.now * 3) * 4 ≤ length out.old }
     ensures { out.new ≡ put out.old k (each number.write from.now) }
 {
-    let mut i: usize = 0;
-    while i < from.len() {
-        put_number(out, k + i * 3, from[i]);
-        i += 1;
+    for (i, n) in from.iter().enumerate() {
+        put_number(out, k + i * 3, *n);
     }
 }
 
@@ -89,10 +80,7 @@ pub fn put_numbers(out: &mut [u8], k: usize, from: &[u64])
 fn byte_at(from: &[u8], j: usize) -> u8
     ensures { result ≡ get_or from.now j 0 }
 {
-    if j < from.len() {
-        return from[j];
-    }
-    0
+    from.get(j).copied().unwrap_or(0)
 }
 
 fn three_bytes(a: u8, b: u8, c: u8) -> u32
@@ -118,11 +106,8 @@ pub fn put_field(out: &mut [u8], k: usize, from: &[u8])
     requires { (k + (length from.now + 2) / 3) * 4 ≤ length out.old }
     ensures { out.new ≡ put out.old k (field_words from.now) }
 {
-    let n = (from.len() + 2) / 3;
-    let mut i: usize = 0;
-    while i < n {
+    for i in 0..from.len().div_ceil(3) {
         put_word(out, k + i, field_word(from, i));
-        i += 1;
     }
 }
 

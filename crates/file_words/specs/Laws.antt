@@ -1,18 +1,18 @@
 -- The facts that the functions on words and fields are proved by.
-use Rattle.std.specs.Prelude.{◌≡◌, ℕ, zero, suc, ◌+◌, ◌-◌, ◌*◌, ◌/◌, ◌%◌, ◌^◌, ◌<◌, ◌≤◌, Bool, true, false, not, ◌&&◌, List, length, take, drop, ◌==◌, ◌≢◌, nat_eq, nat_lt, slice_index, slice_index_or, refl}
+use Rattle.std.specs.Prelude.{◌≡◌, ℕ, zero, suc, ◌+◌, ◌-◌, ◌*◌, ◌/◌, ◌%◌, ◌^◌, ◌<◌, ◌≤◌, Bool, true, false, ◌&&◌, List, length, take, drop, ◌==◌, ◌≢◌, nat_eq, nat_lt, slice_index, slice_index_or, refl}
+use Rattle.std.specs.List.{list_all, range_with_len}
 use Rattle.std.proofs.Math.Path.{sym, ap}
 use Rattle.std.proofs.Common.{◌∙◌, zero-add, add-one, length-drop, drop-drop, get_or-drop, eq-eqb, ne_eqb, eqb-true, ltb-true}
 use native.Mathlib.Omega.{arith}
 use Rattle.std.proofs.Math.ListN.{get_or-eq_default}
-use Rattle.std.proofs.lemmas.Bool.{not-true, not-false}
 use Rattle.lists.specs.Laws.{both, join, and_false, and_true, and_assoc, same_test}
 use Rattle.file_format.specs.Words.{words, payload, is_word, wrapping_sum}
 use Rattle.file_format.specs.Fields.{Format, number, flag, field, field_ok, is_three_bytes, second, third, many}
 use Rattle.file_format.specs.File.{ends}
 use Rattle.file_format.specs.Places.{number_at}
-use Rattle.file_format.proofs.AccessLaws.{Fixed, fixed_number, fixed_numbers}
+use Rattle.file_format.proofs.AccessLaws.{Fixed, fixed_at, fixed_number, fixed_numbers}
 use Rattle.file_format.proofs.AccessLaws.{get_d_at}
-use Rattle.file_format.proofs.AccessLaws.{many_step, many_broken}
+use Rattle.file_format.proofs.AccessLaws.{many_step}
 use Rattle.file_format.proofs.PlacesLaws.{length_words, word_at, sum_step, number_words_at}
 
 -- ---- a word
@@ -85,19 +85,26 @@ pub flag_made : (ws : List ℕ) (k w : ℕ) → w ≡ slice_index ws k → w % 2
 unfolding flag
 flag_made ws k w e = ap payload (e ∙ sym (get_d_at k ws))
 
--- ---- n records in a row, by a loop over them
+-- ---- n records in a row, each judged in its place
 
 module _ {A : Type 0} (F : Format A) (m : ℕ) (f : Fixed F m) (ws : List ℕ) (k : ℕ) where
   at_place : (i : ℕ) → F.ok (drop (i * m) (drop k ws)) ≡ F.ok (drop (k + i * m) ws)
   at_place i = ap F.ok (drop-drop (i * m) k ws)
 
-  pub many_stopped : (n i : ℕ) (r : Bool) → i < n → r ≡ F.ok (drop (k + i * m) ws) → not r ≡ true
-      → false ≡ (many F n).ok (drop k ws)
-  many_stopped n i r h e g = sym (many_broken F m f n i (drop k ws) h (at_place i ∙ sym e ∙ not-true r g))
+  all_from : (n i : ℕ) → list_all (λ j. F.ok (drop (k + j * m) ws)) (range_with_len i n)
+      ≡ (many F n).ok (drop (k + i * m) ws)
+  unfolding many
+  all_from zero i = refl
+  all_from (suc n) i =
+      let next : k + i * m + m ≡ k + (i + 1) * m = omega arith in
+      let rest = fixed_at f (k + i * m) ws ∙ ap (λ j. drop j ws) next in
+      ap (λ t. F.ok (drop (k + i * m) ws) && t) (all_from n (i + 1) ∙ ap (many F n).ok (sym rest))
 
-  pub many_more : (i : ℕ) (r : Bool) → (many F i).ok (drop k ws) ≡ true → r ≡ F.ok (drop (k + i * m) ws)
-      → not r ≡ false → (many F (i + 1)).ok (drop k ws) ≡ true
-  many_more i r h e g = rw add-one (many_step F m f i (drop k ws) ∙ join h (at_place i ∙ sym e ∙ not-false r g))
+  -- each of n records is good
+  pub many_all : (n : ℕ) → list_all (λ j. F.ok (drop (k + j * m) ws)) (range_with_len 0 n) ≡ (many F n).ok (drop k ws)
+  many_all n =
+      let here : k + 0 * m ≡ k = omega arith in
+      all_from n 0 ∙ ap (λ j. (many F n).ok (drop j ws)) here
 
   -- a loop that does not stop: what was good so far, and the next
   pub many_and : (i : ℕ) (g r s : Bool) → g ≡ (many F i).ok (drop k ws) → r ≡ F.ok (drop (k + i * m) ws) → s ≡ g && r
@@ -109,18 +116,6 @@ module _ {A : Type 0} (F : Format A) (m : ℕ) (f : Fixed F m) (ws : List ℕ) (
 pub many_start : {A : Type 0} (F : Format A) (us : List ℕ) → (many F 0).ok us ≡ true
 unfolding many
 many_start F us = refl
-
-pub many_end : {A : Type 0} (F : Format A) (us : List ℕ) (n i : ℕ) → i ≤ n → n ≤ i → (many F i).ok us ≡ true
-    → true ≡ (many F n).ok us
-many_end F us n i h g e =
-    let q : i ≡ n = omega arith in
-    sym (rw q at e)
-
-pub many_done : {A : Type 0} (F : Format A) (us : List ℕ) (n i : ℕ) (g : Bool) → i ≤ n → n ≤ i → g ≡ (many F i).ok us
-    → g ≡ (many F n).ok us
-many_done F us n i g h l e =
-    let q : i ≡ n = omega arith in
-    rw q at e
 
 -- of numbers that do not lie within the file, none are good
 pub numbers_outside : (bs : List ℕ) (k n : ℕ) → length bs / 4 < k + n * 3
@@ -165,11 +160,6 @@ pub triples_and : (ws : List ℕ) (k i w : ℕ) (g r s : Bool) → g ≡ field_o
 triples_and ws k i w g r s h p e a =
     let there : r ≡ is_three_bytes (slice_index (drop k ws) i) = e ∙ ap is_three_bytes (p ∙ sym (get_or-drop k ws i 0)) in
     rw add-one (a ∙ (λ j. h j && there j) ∙ sym (triples_step i (drop k ws)))
-
-pub triples_end : (us : List ℕ) (n i : ℕ) (g : Bool) → i ≤ n → n ≤ i → g ≡ field_ok (i * 3) us → g ≡ field_ok (n * 3) us
-triples_end us n i g h l e =
-    let q : i ≡ n = omega arith in
-    rw q at e
 
 -- of words that do not lie within the file, the last is 0, which is of no kind
 pub triples_outside : (bs : List ℕ) (k n : ℕ) → length bs / 4 < k + n → (n == 0) ≡ field_ok (n * 3) (drop k (words bs))
@@ -242,12 +232,6 @@ module _ (ws : List ℕ) (k n : ℕ) (front : Bool) (f : front ≡ field_ok (n /
         ∙ ap (λ t. front && t) (h ∙ (λ i. e i && one_zero w i) ∙ ap padded (sym last_there))
         ∙ sym (split_at 2 g)
 
--- ---- counts
-
-pub count_judged : (ws : List ℕ) (p w : ℕ) (r : Bool) → w ≡ slice_index ws p → r ≡ is_word 2 (2 ^ 28) w
-    → r ≡ is_word 2 (2 ^ 28) (slice_index ws p)
-count_judged ws p w r e h = h ∙ ap (is_word 2 (2 ^ 28)) e
-
 -- ---- the end word
 
 pub sum_more : (bs : List ℕ) (i s w r : ℕ) → i < length bs / 4 → s ≡ wrapping_sum (take i (words bs))
@@ -255,11 +239,6 @@ pub sum_more : (bs : List ℕ) (i s w r : ℕ) → i < length bs / 4 → s ≡ w
 sum_more bs i s w r h p q e =
     rw add-one
     (e ∙ (λ j. (p j + q j) % 2 ^ 32) ∙ sum_step (words bs) i (omega (arith, length_words bs)))
-
-pub sum_end : (ws : List ℕ) (i n s : ℕ) → i ≤ n → n ≤ i → s ≡ wrapping_sum (take i ws) → s ≡ wrapping_sum (take n ws)
-sum_end ws i n s h g e =
-    let q : i ≡ n = omega arith in
-    rw q at e
 
 pub ends_not : (bs : List ℕ) (e : ℕ) → (e + 1 ≢ length bs / 4) → false ≡ ends (words bs) (drop e (words bs))
 ends_not bs e h =

@@ -4,25 +4,13 @@
 
 #![tactic(auto)]
 
-ghost use Rattle.std.specs.Prelude.{◌≡◌, ◌+◌, ◌*◌, ◌/◌, ◌%◌, ◌^◌, ◌<◌, ◌≤◌, true, ◌&&◌, length, take, drop, slice_index};
+ghost use Rattle.std.specs.Prelude.{◌≡◌, ◌+◌, ◌*◌, ◌/◌, ◌%◌, ◌^◌, ◌<◌, ◌≤◌, true, length, take, drop, slice_index};
 ghost use Rattle.file_format.specs.Words.{words, is_word, wrapping_sum};
 ghost use Rattle.file_format.specs.Fields.{number, flag, field, field_ok, many};
 ghost use Rattle.file_format.specs.File.{ends};
 ghost use Rattle.file_format.specs.Places.{number_at, count_at};
 
-pub fn both(a: bool, b: bool) -> bool
-    ensures { result ≡ a && b }
-{
-    if a { b } else { false }
-}
-
 // ---- one word
-
-fn word_of(a: u8, b: u8, c: u8, d: u8) -> u32
-    ensures { result ≡ a + b * 256 + c * 65536 + d * 16777216 }
-{
-    a as u32 + b as u32 * 256 + c as u32 * 65536 + d as u32 * 16777216
-}
 
 // Word k, which is there.
 pub fn word_within(file: &[u8], k: usize) -> u32
@@ -30,7 +18,7 @@ pub fn word_within(file: &[u8], k: usize) -> u32
     ensures { result ≡ slice_index (words file.now) k }
 {
     let at = k * 4;
-    word_of(file[at], file[at + 1], file[at + 2], file[at + 3])
+    u32::from_le_bytes([file[at], file[at + 1], file[at + 2], file[at + 3]])
 }
 
 // Word k; 0 behind the end.
@@ -46,7 +34,7 @@ pub fn word_at(file: &[u8], k: usize) -> u32
 pub fn is_word(kind: u32, limit: u32, w: u32) -> bool
     ensures { result ≡ is_word kind limit w }
 {
-    both(w / 0x1000_0000 == kind, w % 0x1000_0000 < limit)
+    (w / 0x1000_0000 == kind) & (w % 0x1000_0000 < limit)
 }
 
 // ---- fields, from word k on
@@ -59,10 +47,7 @@ fn number_within(file: &[u8], k: usize) -> bool
     let low = word_within(file, k);
     let middle = word_within(file, k + 1);
     let top = word_within(file, k + 2);
-    both(
-        is_word(3, 0x1000_0000, low),
-        both(is_word(4, 0x1000_0000, middle), is_word(5, 256, top)),
-    )
+    is_word(3, 0x1000_0000, low) & is_word(4, 0x1000_0000, middle) & is_word(5, 256, top)
 }
 
 pub fn number_ok(file: &[u8], k: usize) -> bool
@@ -84,10 +69,8 @@ pub fn numbers_ok(file: &[u8], k: usize, n: usize) -> bool
         return n == 0;
     }
     let mut good = true;
-    let mut i: usize = 0;
-    while i < n {
-        good = both(good, number_within(file, k + i * 3));
-        i += 1;
+    for i in 0..n {
+        good &= number_within(file, k + i * 3);
     }
     good
 }
@@ -98,7 +81,7 @@ pub fn flag_ok(file: &[u8], k: usize) -> bool
     is_word(7, 2, word_at(file, k))
 }
 
-// n words of three bytes.
+// n words of three bytes. A loop beside that of numbers_ok: a shared one over a closure would need longer clauses.
 pub fn triples_ok(file: &[u8], k: usize, n: usize) -> bool
     requires { k + n ≤ 2 ^ 40 }
     ensures { result ≡ field_ok (n * 3) (drop k (words file.now)) }
@@ -107,10 +90,8 @@ pub fn triples_ok(file: &[u8], k: usize, n: usize) -> bool
         return n == 0;
     }
     let mut good = true;
-    let mut i: usize = 0;
-    while i < n {
-        good = both(good, is_word(6, 0x100_0000, word_within(file, k + i)));
-        i += 1;
+    for i in 0..n {
+        good &= is_word(6, 0x100_0000, word_within(file, k + i));
     }
     good
 }
@@ -129,9 +110,9 @@ pub fn field_ok(file: &[u8], k: usize, n: usize) -> bool
     let last = word_at(file, k + full);
     let kind = is_word(6, 0x100_0000, last);
     if left == 1 {
-        return both(front, both(kind, last % 65536 == 0));
+        return front & kind & (last % 65536 == 0);
     }
-    both(front, both(kind, last % 256 == 0))
+    front & kind & (last % 256 == 0)
 }
 
 // ---- what fields hold that were judged good
@@ -185,11 +166,8 @@ pub fn words_sum(file: &[u8], n: usize) -> u32
     ensures { result ≡ wrapping_sum (take n (words file.now)) }
 {
     let mut sum: u32 = 0;
-    let mut i: usize = 0;
-    while i < n {
-        let w = word_within(file, i);
-        sum = std::num::wrapping_add_u32(sum, w);
-        i += 1;
+    for i in 0..n {
+        sum = sum.wrapping_add(word_within(file, i));
     }
     sum
 }

@@ -11,6 +11,7 @@ use std::rt::Files;
 use std::{fs, io};
 
 // Reads until the buffer is full or the input ends; how many bytes it put at the buffer's start.
+// `read_exact` would not say how many bytes came before an early end.
 pub fn read_full<R: Read>(reader: &mut R, buf: &mut [u8]) -> io::Result<usize>
     ensures bound { ReadsAtMost result buf.new }
     ensures bytes { IfOk result (λ n.

@@ -1,15 +1,15 @@
 -- What the bare assignment gives, by its cases.
-use Rattle.std.specs.Prelude.{◌≡◌, refl, ℕ, ◌≤◌, ◌<◌, eqb}
-use Rattle.std.proofs.Common.{ap, arith}
+use Rattle.std.specs.Prelude.{◌≡◌, ℕ, ◌≤◌, ◌<◌, eqb, Result, Ok, Err}
+use Rattle.std.proofs.Common.{ap, sym}
 use borrow.Author.Tests.{eq-eqb, ne_eqb, lt-ltb, le-ltb}
 use Rattle.lists.specs.Base.{when◌then◌else◌}
 use Rattle.rules.specs.Types.{BOUND}
 use Rattle.rules.specs.Helpers as rule
 use Rattle.rules.specs.Helpers.{assign_epoch}
 use Rattle.rules.specs.Calls.{assignment_answer}
+use Rattle.primitives.specs.declared.answers.Refusal.{Refusal}
+use Rattle.primitives.specs.Answers.{answer_number, refusal_not_0, refusal_fixed}
 use Rattle.helpers.specs.declared.assignment.Assignment.{Assignment}
-use Rattle.helpers.specs.declared.assignment.AssignmentAnswer.{AssignmentAnswer}
-use Rattle.helpers.specs.declared.assignment.AssignmentAnswer.TheVariants.{Assigned, ChurnZero, EpochOverBound}
 
 -- the declared struct as the rules' record
 abbrev pub plain_assignment : Assignment → rule.Assignment
@@ -18,31 +18,19 @@ plain_assignment a = record { left = a.left.0; epoch = a.epoch.0 }
 abbrev pub no_assignment : rule.Assignment
 no_assignment = record { left = 0; epoch = 0 }
 
--- the number of each case
-abbrev pub answer_number : AssignmentAnswer → ℕ
-answer_number (Assigned a) = 0
-answer_number ChurnZero = 50
-answer_number EpochOverBound = 42
-
--- and its assignment
-abbrev pub answer_assignment : AssignmentAnswer → rule.Assignment
-answer_assignment (Assigned a) = plain_assignment a
-answer_assignment ChurnZero = no_assignment
-answer_assignment EpochOverBound = no_assignment
+-- the assignment of an answer
+abbrev pub answer_assignment : Result Assignment Refusal → rule.Assignment
+answer_assignment (Ok a) = plain_assignment a
+answer_assignment (Err _) = no_assignment
 
 -- number and assignment leave no second answer
-pub answer_fixed : (r s : AssignmentAnswer) → answer_number r ≡ answer_number s
+pub assignment_fixed : (r s : Result Assignment Refusal) → answer_number r ≡ answer_number s
     → answer_assignment r ≡ answer_assignment s → r ≡ s
-answer_fixed (Assigned a) (Assigned b) n e =
-    ap (λ (x : rule.Assignment). Assigned (record { left = record { 0 = x.left }; epoch = record { 0 = x.epoch } })) e
-answer_fixed (Assigned a) ChurnZero n e = let z : ⊥ = omega (arith, n) in absurd z
-answer_fixed (Assigned a) EpochOverBound n e = let z : ⊥ = omega (arith, n) in absurd z
-answer_fixed ChurnZero (Assigned b) n e = let z : ⊥ = omega (arith, n) in absurd z
-answer_fixed ChurnZero ChurnZero n e = refl
-answer_fixed ChurnZero EpochOverBound n e = let z : ⊥ = omega (arith, n) in absurd z
-answer_fixed EpochOverBound (Assigned b) n e = let z : ⊥ = omega (arith, n) in absurd z
-answer_fixed EpochOverBound ChurnZero n e = let z : ⊥ = omega (arith, n) in absurd z
-answer_fixed EpochOverBound EpochOverBound n e = refl
+assignment_fixed (Ok a) (Ok b) n e =
+    ap (λ (x : rule.Assignment). Ok (record { left = record { 0 = x.left }; epoch = record { 0 = x.epoch } })) e
+assignment_fixed (Ok a) (Err f) n e = absurd (refusal_not_0 f (sym n))
+assignment_fixed (Err d) (Ok b) n e = absurd (refusal_not_0 d n)
+assignment_fixed (Err d) (Err f) n e = ap Err (refusal_fixed d f n)
 
 -- a refusal gives no assignment
 unfoldable pub assignment_result : (left earliest_epoch activation_exit_epoch churn amount : ℕ) → rule.Assignment

@@ -7,7 +7,7 @@ ghost use Rattle.primitives.specs.Settings.{settings_of};
 ghost use Rattle.records.specs.Books.{tables, books_of};
 ghost use Rattle.helpers.specs.Ready.{Registry};
 
-use primitives::{Gwei, Scalars, Settings, ValidatorIndex, max, min};
+use primitives::{Gwei, Scalars, Settings, ValidatorIndex};
 
 pub fn get_total_active_balance(settings: Settings, scalars: Scalars, validators: &[u64]) -> Gwei
     requires { Registry scalars validators.now }
@@ -15,20 +15,17 @@ pub fn get_total_active_balance(settings: Settings, scalars: Scalars, validators
         → result.0 ≡ get_total_active_balance (settings_of settings)
         (books_of scalars (tables ids validators.now ds ps cs)) }
 {
-    let n = scalars.validators;
     let epoch = scalars.epoch;
-    let mut sum: u64 = 0;
-    let mut i = 0;
-    while i < n {
+    let mut sum = 0;
+    for i in 0..scalars.validators {
         let active = records::registry::active_effective_balance_at(
             validators,
             ValidatorIndex(i),
             epoch,
         );
-        sum = sum + active.0;
-        i += 1;
+        sum += active.0;
     }
-    max(settings.effective_balance_increment, Gwei(sum))
+    Gwei(settings.effective_balance_increment.0.max(sum))
 }
 
 pub fn get_balance_churn_limit(settings: Settings, scalars: Scalars, validators: &[u64]) -> Gwei
@@ -39,10 +36,12 @@ pub fn get_balance_churn_limit(settings: Settings, scalars: Scalars, validators:
         (books_of scalars (tables ids validators.now ds ps cs)) }
 {
     let total = get_total_active_balance(settings, scalars, validators);
-    let churn_limit = Gwei(total.0 / settings.churn_limit_quotient);
-    let churn = max(settings.min_per_epoch_churn_limit_electra, churn_limit);
-    let rest = churn.0 % settings.effective_balance_increment.0;
-    Gwei(churn.0 - rest)
+    let churn_limit = total.0 / settings.churn_limit_quotient;
+    let churn = settings
+        .min_per_epoch_churn_limit_electra
+        .0
+        .max(churn_limit);
+    Gwei(churn - churn % settings.effective_balance_increment.0)
 }
 
 pub fn get_activation_exit_churn_limit(
@@ -57,7 +56,12 @@ pub fn get_activation_exit_churn_limit(
         (books_of scalars (tables ids validators.now ds ps cs)) }
 {
     let churn = get_balance_churn_limit(settings, scalars, validators);
-    min(settings.max_per_epoch_activation_exit_churn_limit, churn)
+    Gwei(
+        settings
+            .max_per_epoch_activation_exit_churn_limit
+            .0
+            .min(churn.0),
+    )
 }
 
 pub fn get_consolidation_churn_limit(
@@ -72,6 +76,9 @@ pub fn get_consolidation_churn_limit(
         (books_of scalars (tables ids validators.now ds ps cs)) }
 {
     let churn = get_balance_churn_limit(settings, scalars, validators);
-    let activation_exit = min(settings.max_per_epoch_activation_exit_churn_limit, churn);
-    Gwei(churn.0 - activation_exit.0)
+    let activation_exit = settings
+        .max_per_epoch_activation_exit_churn_limit
+        .0
+        .min(churn.0);
+    Gwei(churn.0 - activation_exit)
 }

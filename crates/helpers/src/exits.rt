@@ -13,6 +13,7 @@ ghost use Rattle.helpers.specs.Exits.{exit_assignment, consolidation_assignment,
 ghost use Rattle.helpers.specs.Ready.{Registry, Accounts};
 
 use crate::assignment::Assignment;
+use churn_account::ChurnAccount;
 use primitives::{Epoch, Gwei, Scalars, Settings, ValidatorIndex};
 
 pub fn compute_activation_exit_epoch(settings: Settings, scalars: Scalars) -> Epoch
@@ -27,26 +28,22 @@ pub fn compute_activation_exit_epoch(settings: Settings, scalars: Scalars) -> Ep
 fn assign_account(
     settings: Settings,
     scalars: Scalars,
-    left: Gwei,
-    earliest: Epoch,
+    account: ChurnAccount,
     churn: Gwei,
     amount: Gwei,
 ) -> Assignment
     requires settings_are_sound { sound_settings (settings_of settings) ≡ true }
-    requires epochs_bound { (scalars.epoch.0 ≤ BOUND) × (earliest.0 ≤ BOUND) }
+    requires epochs_bound { (scalars.epoch.0 ≤ BOUND) × (account.earliest_epoch.0 ≤ BOUND) }
     requires churn_and_amount { (0 < churn.0) × (amount.0 ≤ BOUND) }
     ensures assigned { (t : Tables)
         → plain_assignment result
-        ≡ assign_epoch left.0 earliest.0
+        ≡ assign_epoch account.balance_to_consume.0 account.earliest_epoch.0
         (compute_activation_exit_epoch (settings_of settings) (books_of scalars t)) churn.0 amount.0 }
     ensures far_off { result.epoch.0 + 2 ^ 16 < FAR }
 {
     let activation_exit = compute_activation_exit_epoch(settings, scalars);
-    let account = churn_account::account_after(left, earliest, activation_exit, churn, amount);
-    Assignment {
-        left: Gwei(account.balance_to_consume.0),
-        epoch: Epoch(account.earliest_epoch.0),
-    }
+    let account = account.account_after(activation_exit, churn, amount);
+    Assignment::from(account)
 }
 
 // The exits' churn account after an exit of `amount`.
@@ -67,9 +64,11 @@ pub fn compute_exit_epoch_and_update_churn(
     ensures far_off { result.epoch.0 + 2 ^ 16 < FAR }
 {
     let churn = crate::churn::get_activation_exit_churn_limit(settings, scalars, validators);
-    let left = scalars.exit_balance_to_consume;
-    let earliest = scalars.earliest_exit_epoch;
-    assign_account(settings, scalars, left, earliest, churn, amount)
+    let account = ChurnAccount {
+        balance_to_consume: scalars.exit_balance_to_consume,
+        earliest_epoch: scalars.earliest_exit_epoch,
+    };
+    assign_account(settings, scalars, account, churn, amount)
 }
 
 // The consolidations' churn account after a consolidation of `amount`, where the churn is known.
@@ -87,9 +86,11 @@ pub fn assign_consolidation_epoch(
         ≡ consolidation_assignment (settings_of settings) (books_of scalars t) churn.0 amount.0 }
     ensures far_off { result.epoch.0 + 2 ^ 16 < FAR }
 {
-    let left = scalars.consolidation_balance_to_consume;
-    let earliest = scalars.earliest_consolidation_epoch;
-    assign_account(settings, scalars, left, earliest, churn, amount)
+    let account = ChurnAccount {
+        balance_to_consume: scalars.consolidation_balance_to_consume,
+        earliest_epoch: scalars.earliest_consolidation_epoch,
+    };
+    assign_account(settings, scalars, account, churn, amount)
 }
 
 // ---- the exit of a validator: `assign_exit` and `begin_exit` are the halves of initiate_validator_exit, apart because

@@ -10,29 +10,20 @@ ghost use Rattle.helpers.specs.Found.{Finds};
 use primitives::{Gwei, Scalars, ValidatorIndex};
 use records::queues::PendingPartialWithdrawal;
 
-// Where a key stands in the registry.
-#[derive(Clone, Copy)]
-pub enum Found {
-    At(ValidatorIndex),
-    Nowhere,
-}
-
 // The first validator with this key.
-pub fn position(scalars: Scalars, identities: &[u8], public_key: [u8; 48]) -> Found
+#[tactic(auto, using(crate::proofs::Loops::position_loop), unfolding(records::specs::Books::books_of))]
+pub fn position(scalars: Scalars, identities: &[u8], public_key: [u8; 48]) -> Option<ValidatorIndex>
     requires { scalars.validators ≤ identities_fit identities.now }
     ensures { (vs ds ps cs : List ℕ)
         → Finds result scalars.validators
         (position public_key (books_of scalars (tables identities.now vs ds ps cs)).validators) }
 {
-    let n = scalars.validators;
-    let mut i: usize = 0;
-    while i < n {
+    for i in 0..scalars.validators {
         if records::registry::has_public_key(identities, ValidatorIndex(i), public_key) {
-            return Found::At(ValidatorIndex(i));
+            return Some(ValidatorIndex(i));
         }
-        i += 1;
     }
-    Found::Nowhere
+    None
 }
 
 fn owed_to(i: ValidatorIndex, p: PendingPartialWithdrawal) -> Gwei
@@ -41,6 +32,7 @@ fn owed_to(i: ValidatorIndex, p: PendingPartialWithdrawal) -> Gwei
     if p.index.0 == i.0 { p.amount } else { Gwei(0) }
 }
 
+#[tactic(auto, using(crate::proofs::Loops::owed_loop), unfolding(records::specs::Books::books_of))]
 pub fn get_pending_balance_to_withdraw(
     scalars: Scalars,
     partials: &[u64],
@@ -51,14 +43,10 @@ pub fn get_pending_balance_to_withdraw(
         → result.0 ≡ get_pending_balance_to_withdraw
         (books_of scalars (tables ids vs ds partials.now cs)) i.0 }
 {
-    let n = scalars.partials;
-    let mut sum: u64 = 0;
-    let mut k = 0;
-    while k < n {
-        let p = records::queues::partial_at(partials, k);
-        let owed = owed_to(i, p);
-        sum = sum + owed.0;
-        k += 1;
+    let mut sum = 0;
+    for k in 0..scalars.partials {
+        let p: PendingPartialWithdrawal = records::queues::entry_at(partials, k);
+        sum += owed_to(i, p).0;
     }
     Gwei(sum)
 }

@@ -1,9 +1,12 @@
 // A consolidation of one validator into another.
 ghost use Rattle.rules.specs.Calls.{consolidation};
+ghost use Rattle.primitives.specs.Answers.{answer_number, answer_or};
 ghost use Rattle.primitives.specs.Settings.{settings_of};
 ghost use Rattle.records.specs.Books.{tables, Called};
 
-use primitives::{Epoch, Outcome, Scalars, Settings, ValidatorIndex, answers};
+use primitives::answers::Refusal;
+use primitives::{Epoch, Scalars, Settings, ValidatorIndex};
+use records::books::Books;
 
 // `valid` says whether the signature is good.
 pub fn process_consolidation(
@@ -18,29 +21,25 @@ pub fn process_consolidation(
     target: ValidatorIndex,
     epoch: Epoch,
     valid: bool,
-) -> Outcome
+) -> Result<Scalars, Refusal>
     ensures { Called (settings_of settings)
         (consolidation source.0 target.0 epoch.0 valid) scalars
         (tables identities.now validators.old deposits.now
         partials.now consolidations.old)
         (tables identities.now validators.new deposits.now
-        partials.now consolidations.new) result.number result.scalars }
+        partials.now consolidations.new) (answer_number result) (answer_or scalars result) }
 {
-    let handed = acceptance::handed(
+    acceptance::accept(
         settings,
-        scalars,
-        identities,
-        validators,
-        deposits,
-        partials,
-        consolidations,
-    );
-    if handed != answers::DONE {
-        return Outcome {
-            number: handed,
+        &Books {
             scalars,
-        };
-    }
+            identities,
+            validators,
+            deposits,
+            partials,
+            consolidations,
+        },
+    )?;
     consolidation_operations::process_consolidation(
         settings,
         scalars,

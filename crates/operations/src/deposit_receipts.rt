@@ -1,9 +1,12 @@
 // A deposit receipt.
 ghost use Rattle.rules.specs.Calls.{deposit_receipt};
+ghost use Rattle.primitives.specs.Answers.{answer_number, answer_or};
 ghost use Rattle.primitives.specs.Settings.{settings_of};
 ghost use Rattle.records.specs.Books.{tables, Called};
 
-use primitives::{Gwei, Outcome, Scalars, Settings, answers};
+use primitives::answers::Refusal;
+use primitives::{Gwei, Scalars, Settings};
+use records::books::Books;
 
 // `valid` says whether the signature is good.
 pub fn process_deposit_receipt(
@@ -19,30 +22,26 @@ pub fn process_deposit_receipt(
     amount: Gwei,
     index: u64,
     valid: bool,
-) -> Outcome
+) -> Result<Scalars, Refusal>
     ensures { Called (settings_of settings)
         (deposit_receipt public_key withdrawal_credentials amount.0 index valid) scalars
         (tables identities.old validators.old deposits.old
         partials.now consolidations.now)
         (tables identities.new validators.new deposits.new
-        partials.now consolidations.now) result.number result.scalars }
+        partials.now consolidations.now) (answer_number result) (answer_or scalars result) }
 {
-    let handed = acceptance::accept(
+    let held = acceptance::accept(
         settings,
-        scalars,
-        identities,
-        validators,
-        deposits,
-        partials,
-        consolidations,
-    );
-    if handed.number != answers::DONE {
-        return Outcome {
-            number: handed.number,
+        &Books {
             scalars,
-        };
-    }
-    let sums = acceptance::sum_within(handed.held, amount);
+            identities,
+            validators,
+            deposits,
+            partials,
+            consolidations,
+        },
+    )?;
+    let sums = acceptance::sum_within(held, amount);
     receipt_operations::process_deposit_receipt(
         settings,
         scalars,

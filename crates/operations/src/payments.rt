@@ -2,11 +2,14 @@
 ghost use Rattle.std.specs.Prelude.{◌≡◌};
 ghost use Rattle.rules.specs.Calls.{handed_refusal, withdrawals};
 ghost use Rattle.expected_withdrawals.specs.Expected.{handed_list};
+ghost use Rattle.primitives.specs.Answers.{answer_number, answer_or};
 ghost use Rattle.primitives.specs.Settings.{settings_of};
 ghost use Rattle.records.specs.Books.{tables, books_of, room_of, Called};
 
 use expected_withdrawals::Withdrawal;
-use primitives::{BOUND, Outcome, Scalars, Settings, answers};
+use primitives::answers::Refusal;
+use primitives::{BOUND, Scalars, Settings};
+use records::books::Books;
 
 // On books that the tests accepted. The first n records of the list are the withdrawals; the others are not looked at.
 pub fn process_withdrawals_accepted(
@@ -19,7 +22,7 @@ pub fn process_withdrawals_accepted(
     consolidations: &[u64],
     list: [Withdrawal; 16],
     n: usize,
-) -> Outcome
+) -> Result<Scalars, Refusal>
     requires { handed_refusal (settings_of settings)
         (books_of scalars
         (tables identities.now validators.old deposits.now partials.old consolidations.now))
@@ -30,24 +33,21 @@ pub fn process_withdrawals_accepted(
         (tables identities.now validators.old deposits.now
         partials.old consolidations.now)
         (tables identities.now validators.new deposits.now
-        partials.new consolidations.now) result.number result.scalars }
+        partials.new consolidations.now) (answer_number result) (answer_or scalars result) }
 {
-    let expected = expected_withdrawals::get_expected_withdrawals(
-        settings, scalars, identities, validators, partials,
-    );
-    let refusal = withdrawals::withdrawals_refusal(list, n, expected);
-    if refusal != answers::DONE {
-        return Outcome {
-            number: refusal,
-            scalars,
-        };
-    }
+    let books = Books {
+        scalars,
+        identities,
+        validators,
+        deposits,
+        partials,
+        consolidations,
+    };
+    let expected = expected_withdrawals::get_expected_withdrawals(settings, &books);
+    withdrawals::withdrawals_refusal(list, n, expected)?;
     let next = withdrawals::next_index(scalars, list, n);
     if BOUND < next.0 {
-        return Outcome {
-            number: answers::RESULT_EPOCH_OVER_BOUND,
-            scalars,
-        };
+        return Err(Refusal::ResultEpochOverBound);
     }
     let after = withdrawals::process_withdrawals(
         settings,
@@ -61,10 +61,7 @@ pub fn process_withdrawals_accepted(
         n,
         expected,
     );
-    Outcome {
-        number: answers::DONE,
-        scalars: after,
-    }
+    Ok(after)
 }
 
 // The first n records of the list are the withdrawals; the others are not looked at.
@@ -78,29 +75,25 @@ pub fn process_withdrawals(
     consolidations: &[u64],
     list: [Withdrawal; 16],
     n: usize,
-) -> Outcome
+) -> Result<Scalars, Refusal>
     ensures { Called (settings_of settings)
         (withdrawals (handed_list list n)) scalars
         (tables identities.now validators.old deposits.now
         partials.old consolidations.now)
         (tables identities.now validators.new deposits.now
-        partials.new consolidations.now) result.number result.scalars }
+        partials.new consolidations.now) (answer_number result) (answer_or scalars result) }
 {
-    let handed = acceptance::handed(
+    acceptance::accept(
         settings,
-        scalars,
-        identities,
-        validators,
-        deposits,
-        partials,
-        consolidations,
-    );
-    if handed != answers::DONE {
-        return Outcome {
-            number: handed,
+        &Books {
             scalars,
-        };
-    }
+            identities,
+            validators,
+            deposits,
+            partials,
+            consolidations,
+        },
+    )?;
     process_withdrawals_accepted(
         settings,
         scalars,

@@ -1,9 +1,12 @@
 // A voluntary exit.
 ghost use Rattle.rules.specs.Calls.{voluntary_exit};
+ghost use Rattle.primitives.specs.Answers.{answer_number, answer_or};
 ghost use Rattle.primitives.specs.Settings.{settings_of};
 ghost use Rattle.records.specs.Books.{tables, Called};
 
-use primitives::{Epoch, Outcome, Scalars, Settings, ValidatorIndex, answers};
+use primitives::answers::Refusal;
+use primitives::{Epoch, Scalars, Settings, ValidatorIndex};
+use records::books::Books;
 
 // `valid` says whether the signature is good.
 pub fn process_voluntary_exit(
@@ -17,29 +20,25 @@ pub fn process_voluntary_exit(
     i: ValidatorIndex,
     epoch: Epoch,
     valid: bool,
-) -> Outcome
+) -> Result<Scalars, Refusal>
     ensures { Called (settings_of settings)
         (voluntary_exit i.0 epoch.0 valid) scalars
         (tables identities.now validators.old deposits.now
         partials.now consolidations.now)
         (tables identities.now validators.new deposits.now
-        partials.now consolidations.now) result.number result.scalars }
+        partials.now consolidations.now) (answer_number result) (answer_or scalars result) }
 {
-    let handed = acceptance::handed(
+    acceptance::accept(
         settings,
-        scalars,
-        identities,
-        validators,
-        deposits,
-        partials,
-        consolidations,
-    );
-    if handed != answers::DONE {
-        return Outcome {
-            number: handed,
+        &Books {
             scalars,
-        };
-    }
+            identities,
+            validators,
+            deposits,
+            partials,
+            consolidations,
+        },
+    )?;
     exit_operations::process_voluntary_exit(
         settings,
         scalars,

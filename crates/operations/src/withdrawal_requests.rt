@@ -1,9 +1,12 @@
 // A withdrawal request of the execution layer.
 ghost use Rattle.rules.specs.Calls.{withdrawal_request};
+ghost use Rattle.primitives.specs.Answers.{answer_number, answer_or};
 ghost use Rattle.primitives.specs.Settings.{settings_of};
 ghost use Rattle.records.specs.Books.{tables, Called};
 
-use primitives::{Gwei, Outcome, Scalars, Settings, answers};
+use primitives::answers::Refusal;
+use primitives::{Gwei, Scalars, Settings};
+use records::books::Books;
 
 // An amount of 0 asks for a full exit.
 pub fn process_execution_layer_withdrawal_request(
@@ -17,29 +20,25 @@ pub fn process_execution_layer_withdrawal_request(
     source_address: [u8; 20],
     public_key: [u8; 48],
     amount: Gwei,
-) -> Outcome
+) -> Result<Scalars, Refusal>
     ensures { Called (settings_of settings)
         (withdrawal_request source_address public_key amount.0) scalars
         (tables identities.now validators.old deposits.now
         partials.old consolidations.now)
         (tables identities.now validators.new deposits.now
-        partials.new consolidations.now) result.number result.scalars }
+        partials.new consolidations.now) (answer_number result) (answer_or scalars result) }
 {
-    let handed = acceptance::handed(
+    acceptance::accept(
         settings,
-        scalars,
-        identities,
-        validators,
-        deposits,
-        partials,
-        consolidations,
-    );
-    if handed != answers::DONE {
-        return Outcome {
-            number: handed,
+        &Books {
             scalars,
-        };
-    }
+            identities,
+            validators,
+            deposits,
+            partials,
+            consolidations,
+        },
+    )?;
     request_operations::process_execution_layer_withdrawal_request(
         settings,
         scalars,

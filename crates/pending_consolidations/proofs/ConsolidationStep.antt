@@ -27,7 +27,7 @@ use Rattle.records.specs.declared.queues.PendingConsolidation as declared
 use Rattle.records.specs.Layout.{validator_at, consolidation_at}
 use Rattle.records.specs.Layout.{slashed_at, withdrawable_epoch_at, balance_at, deposits_fit}
 use Rattle.records.specs.Plain.{plain_consolidation}
-use Rattle.records.specs.Books.{Tables, tables, Stepped, Beyond, AtMost, books_of, beyond_none, beyond_then}
+use Rattle.records.specs.Books.{Tables, tables, Stepped, Beyond, AtMost, books_of, beyond_then}
 use Rattle.records.specs.Books.{consolidations_of}
 use Rattle.records.specs.Reading.{validator_read, validators_count, deposits_count, epoch_read}
 use Rattle.records.specs.Stores.{ValidatorAdjusted}
@@ -142,19 +142,6 @@ pub record Consolidating (S : Settings) (s₀ : Scalars) (t₀ : Tables) (s : Sc
   pub validators : length t.validators ≡ length t₀.validators
   pub deposits : length t.deposits ≡ length t₀.deposits
 
-pub consolidating_none : (S : Settings) (s : Scalars) (t : Tables) → held (books_of s t) ≤ BOUND
-    → Consolidating S s t s t 0
-consolidating_none S s t h = record {
-  left = refl;
-  reached = omega arith;
-  counts = refl;
-  beyond = beyond_none s t;
-  held_small = h;
-  identities = refl;
-  validators = refl;
-  deposits = refl;
-}
-
 abbrev queue_length : Books → ℕ
 queue_length b = length b.pending_balance_deposits
 
@@ -179,10 +166,11 @@ module _ {S : Settings} {s₀ s : Scalars} {t₀ t : Tables} {i : ℕ} (h : Cons
     beyond = h.beyond;
   }
 
-  pub consolidating_end : s₀.consolidations ≤ i → Consolidated S s₀ t₀ t s i
+  pub consolidating_end : s₀.consolidations ≤ i → Consolidated S s₀ t₀ t s s₀.consolidations
   unfolding process_consolidations
   consolidating_end e =
-      finished (rw (drop_rows_end s₀.consolidations (consolidation_at t₀.consolidations) i e))
+      let all : i ≡ s₀.consolidations = omega (arith, h.reached) in
+      rw all at (finished (rw (drop_rows_end s₀.consolidations (consolidation_at t₀.consolidations) i e)))
 
   pub validators_same : s.validators ≡ s₀.validators
   validators_same = ap (λ (r : Scalars). r.validators) h.counts

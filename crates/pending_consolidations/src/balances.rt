@@ -4,7 +4,7 @@ ghost use Rattle.rules.specs.Helpers.{get_active_balance};
 ghost use Rattle.primitives.specs.Settings.{settings_of};
 ghost use Rattle.records.specs.Layout.{validator_at, identities_fit, validators_fit};
 
-use primitives::{Gwei, Settings, ValidatorIndex, min};
+use primitives::{Gwei, Settings, ValidatorIndex};
 
 pub fn get_active_balance(
     settings: Settings,
@@ -18,5 +18,5 @@ pub fn get_active_balance(
 {
     let most = records::registry::max_effective_balance_at(settings, identities, i);
     let balance = records::registry::balance_at(validators, i);
-    min(balance, most)
+    Gwei(balance.0.min(most.0))
 }

@@ -112,26 +112,24 @@ fn process_consolidations(
     let m = scalars.consolidations;
     let epoch = scalars.epoch;
     let mut after = scalars;
-    let mut i = 0;
-    while i < m {
-        let c = records::queues::consolidation_at(consolidations, i);
+    for i in 0..m {
+        let c: PendingConsolidation = records::queues::entry_at(consolidations, i);
         let source = c.source_index;
         if records::registry::slashed_at(validators, source) == 1 {
-            i += 1;
             continue;
         }
-        if epoch.0 < records::registry::withdrawable_epoch_at(validators, source).0 {
+        let withdrawable = records::registry::withdrawable_epoch_at(validators, source);
+        if epoch < withdrawable {
             return ProcessedConsolidations {
                 scalars: after,
                 next: i,
             };
         }
         after = consolidate(settings, after, identities, validators, deposits, c);
-        i += 1;
     }
     ProcessedConsolidations {
         scalars: after,
-        next: i,
+        next: m,
     }
 }
 
@@ -176,6 +174,6 @@ pub fn process_pending_consolidations(
     let next = processed.next;
     let after = processed.scalars;
     let left = m - next;
-    records::queues::drain_consolidations(consolidations, next, left);
+    records::queues::drain::<PendingConsolidation>(consolidations, next, left);
     after.with_consolidations(left)
 }

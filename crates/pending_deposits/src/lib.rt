@@ -16,6 +16,7 @@ ghost use Rattle.records.specs.Books.{Stepped, books_of, room_of, tables};
 ghost use Rattle.pending_deposits.specs.Deposits.{validator_balances, Credited, Processed};
 
 use primitives::{Gwei, Scalars, Settings};
+use records::queues::PendingBalanceDeposit;
 
 // What the deposit loop has processed: the amount, and the position of the first deposit not reached.
 #[derive(Clone, Copy)]
@@ -34,11 +35,9 @@ fn credit_deposits(validators: &mut [u64], deposits: &[u64], n: usize, count: us
         ≤ BOUND }
     ensures { Credited n count deposits.now validators.old validators.new }
 {
-    let mut i = 0;
-    while i < count {
-        let deposit = records::queues::deposit_at(deposits, i);
+    for i in 0..count {
+        let deposit: PendingBalanceDeposit = records::queues::entry_at(deposits, i);
         records::registry::increase_balance(validators, deposit.index, deposit.amount);
-        i += 1;
     }
 }
 
@@ -103,7 +102,7 @@ pub fn process_pending_balance_deposits(
     let processed = process_deposits(validators, deposits, n, m, Gwei(available));
     let next = processed.next;
     let left = m - next;
-    records::queues::drain_deposits(deposits, next, left);
+    records::queues::drain::<PendingBalanceDeposit>(deposits, next, left);
     if left == 0 {
         return scalars.with_deposit_balance_to_consume(Gwei(0), left);
     }

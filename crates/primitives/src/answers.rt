@@ -1,46 +1,51 @@
-// The numbers of the answers, each named by its cause.
+// What a call answers: it is done, or it is refused for one of these causes.
+ghost use Rattle.std.specs.Prelude.{◌≡◌};
+ghost use Rattle.primitives.specs.Answers.{refusal_number, answer_number};
+
+// The number of a call that is done.
 pub const DONE: u8 = 0;
 
-pub const UNSOUND_SETTINGS: u8 = 1;
+// The causes, each with its number.
+#[derive(Clone, Copy, Debug, PartialEq, Eq)]
+pub enum Refusal {
+    UnsoundSettings = 1,
+    UnsoundBooks = 2,
+    ShortBuffer = 3,
+    NoSuchValidator = 10,
+    NotActive = 11,
+    ExitBegun = 12,
+    StatedEpochAhead = 13,
+    ActiveTooShort = 14,
+    PartialsWaiting = 15,
+    BadSignature = 16,
+    ConsolidationQueueFull = 20,
+    ConsolidationChurnTooLow = 21,
+    SourceIsTarget = 22,
+    NoExecutionCredential = 23,
+    AddressesDiffer = 24,
+    WithdrawalsNotExpected = 30,
+    ResultOverLimit = 40,
+    ResultSumsOverBound = 41,
+    ResultEpochOverBound = 42,
+    ChurnZero = 50,
+    BrokenFile = 60,
+    WriterBufferShort = 61,
+}
 
-pub const UNSOUND_BOOKS: u8 = 2;
+impl Refusal {
+    pub fn number(self) -> u8
+        ensures { result ≡ refusal_number self }
+    {
+        self as u8
+    }
+}
 
-pub const SHORT_BUFFER: u8 = 3;
-
-pub const NO_SUCH_VALIDATOR: u8 = 10;
-
-pub const NOT_ACTIVE: u8 = 11;
-
-pub const EXIT_BEGUN: u8 = 12;
-
-pub const STATED_EPOCH_AHEAD: u8 = 13;
-
-pub const ACTIVE_TOO_SHORT: u8 = 14;
-
-pub const PARTIALS_WAITING: u8 = 15;
-
-pub const BAD_SIGNATURE: u8 = 16;
-
-pub const CONSOLIDATION_QUEUE_FULL: u8 = 20;
-
-pub const CONSOLIDATION_CHURN_TOO_LOW: u8 = 21;
-
-pub const SOURCE_IS_TARGET: u8 = 22;
-
-pub const NO_EXECUTION_CREDENTIAL: u8 = 23;
-
-pub const ADDRESSES_DIFFER: u8 = 24;
-
-pub const WITHDRAWALS_NOT_EXPECTED: u8 = 30;
-
-pub const RESULT_OVER_LIMIT: u8 = 40;
-
-pub const RESULT_SUMS_OVER_BOUND: u8 = 41;
-
-pub const RESULT_EPOCH_OVER_BOUND: u8 = 42;
-
-pub const CHURN_ZERO: u8 = 50;
-
-pub const BROKEN_FILE: u8 = 60;
-
-pub const WRITER_BUFFER_SHORT: u8 = 61;
+// 0 for a value, and the number of its cause for a refusal.
+pub fn answer_number<T>(answer: &Result<T, Refusal>) -> u8
+    ensures { result ≡ answer_number answer.now }
+{
+    match answer {
+        Ok(_) => DONE,
+        Err(refusal) => refusal.number(),
+    }
+}

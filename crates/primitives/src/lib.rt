@@ -3,8 +3,9 @@
 #![tactic(auto)]
 
 pub mod answers; // the numbers of the answers
+mod numbers; // settings and scalars as rows of numbers
 
-ghost use Rattle.std.specs.Prelude.{◌≡◌, ◌-◌, min, max};
+ghost use Rattle.std.specs.Prelude.{◌≡◌};
 ghost use Rattle.rules.specs.Profiles.{mainnet_row};
 ghost use Rattle.primitives.specs.Profiles.{row_settings};
 ghost use Rattle.primitives.specs.Scalars.{with_epoch, with_next_withdrawal, with_receipts_start};
@@ -19,41 +20,17 @@ pub const FAR_FUTURE_EPOCH: u64 = 0xffff_ffff_ffff_ffff;
 pub const BOUND: u64 = 0x4000_0000_0000_0000;
 
 // The aliases of the Rust, as separate kinds of unit.
-#[derive(Clone, Copy)]
+#[derive(Clone, Copy, Debug, PartialEq, Eq, PartialOrd, Ord)]
 pub struct Gwei(pub u64);
 
-#[derive(Clone, Copy)]
+#[derive(Clone, Copy, Debug, PartialEq, Eq, PartialOrd, Ord)]
 pub struct Epoch(pub u64);
 
-#[derive(Clone, Copy)]
+#[derive(Clone, Copy, Debug, PartialEq, Eq, PartialOrd, Ord)]
 pub struct ValidatorIndex(pub usize);
 
-#[derive(Clone, Copy)]
+#[derive(Clone, Copy, Debug, PartialEq, Eq, PartialOrd, Ord)]
 pub struct WithdrawalIndex(pub u64);
-
-pub fn min(a: Gwei, b: Gwei) -> Gwei
-    ensures { result.0 ≡ min a.0 b.0 }
-{
-    if a.0 < b.0 { a } else { b }
-}
-
-pub fn max(a: Gwei, b: Gwei) -> Gwei
-    ensures { result.0 ≡ max a.0 b.0 }
-{
-    if a.0 < b.0 { b } else { a }
-}
-
-pub fn min_usize(a: usize, b: usize) -> usize
-    ensures { result ≡ min a b }
-{
-    if a < b { a } else { b }
-}
-
-pub fn saturating_sub(a: u64, b: u64) -> u64
-    ensures { result ≡ a - b }
-{
-    if a < b { 0 } else { a - b }
-}
 
 // The fifteen chain values, then the limits of the registry and of the three queues.
 #[derive(Clone, Copy)]
@@ -95,13 +72,6 @@ pub struct Scalars {
     pub deposits: usize,
     pub partials: usize,
     pub consolidations: usize,
-}
-
-// What a call answers: the number of its cause, and the scalars that it leaves.
-#[derive(Clone, Copy)]
-pub struct Outcome {
-    pub number: u8,
-    pub scalars: Scalars,
 }
 
 // The fifteen chain values of mainnet, in the order of the settings.

@@ -10,7 +10,7 @@ use lib.Dec.{ltb}
 use borrow.Author.Tests.{ltb-true, lt-ltb, le-ltb, ne_eqb}
 use Rattle.lists.specs.Base.{when◌then◌else◌, every}
 use Rattle.lists.specs.Laws.{both}
-use Rattle.tables.specs.Rows.{rows, drop_rows_at}
+use Rattle.tables.specs.Rows.{rows, drop_rows_at, drop_rows_end}
 use Rattle.tables.specs.Tests.{every_row}
 use Rattle.rules.specs.Types.{Settings, PendingConsolidation, Books}
 use Rattle.rules.specs.EpochProcessing.{consolidate}
@@ -21,6 +21,7 @@ use Rattle.records.specs.Layout.{slashed_at, withdrawable_epoch_at, consolidatio
 use Rattle.compounding.specs.Laws.{excess_entry_count}
 use Rattle.queue_room.specs.Balances.{excess_entry_length, consolidated_balances}
 use Rattle.queue_room.specs.Represented.{Represented, represented_consolidate}
+use Rattle.queue_room.specs.Room.{at_most_one}
 
 -- k of the consolidations cs are passed, `found` entries counted, and `now` are the books that this leaves
 pub record Counting (S : Settings) (s : Scalars) (cs : List PendingConsolidation) (b : Books) (ws w : List ℕ)
@@ -121,3 +122,6 @@ pub consolidation_next : (m : ℕ) (cs : List ℕ) (k : ℕ) → k < m
     → {c : PendingConsolidation} → c ≡ consolidation_at cs k
     → drop k (rows m (consolidation_at cs)) ≡ c ∷ drop (k + 1) (rows m (consolidation_at cs))
 consolidation_next m cs k h {c} e = rw e (drop_rows_at m (consolidation_at cs) k h)
+
+-- the laws that the check applies by itself
+pub ruleset counting_loop = (counting_none, counting_end, named, at_most_one, drop_rows_end)

@@ -139,3 +139,6 @@ owner n m ds k h inside {d} e =
 pub deposit_next : (m : ℕ) (ds : List ℕ) (k : ℕ) → k < m → {d : PendingBalanceDeposit} → d ≡ deposit_at ds k
     → drop k (rows m (deposit_at ds)) ≡ d ∷ drop (k + 1) (rows m (deposit_at ds))
 deposit_next m ds k h {d} e = rw e (drop_rows_at m (deposit_at ds) k h)
+
+-- the laws that the check applies by itself
+pub ruleset crediting_loop = (crediting_none, crediting_small, owner, deposit_next)

@@ -19,7 +19,7 @@ ghost use Rattle.queue_room.specs.Room.{queued, available_amount};
 ghost use Rattle.queue_room.specs.Ready.{RegistryReady, ConsolidationsReady, QueueReady, DepositsReady};
 ghost use Rattle.queue_room.specs.Ready.{AllowanceReady};
 
-use primitives::{Gwei, Scalars, Settings, ValidatorIndex, saturating_sub};
+use primitives::{Gwei, Scalars, Settings, ValidatorIndex};
 use records::queues::{PendingBalanceDeposit, PendingConsolidation};
 
 // ---- one balance
@@ -33,6 +33,7 @@ fn switchable_amount(prefix: u8, amount: Gwei) -> u64
 
 // ---- the balances of the validators that can switch, and 0 for the others
 
+#[tactic(auto, using(crate::proofs::Filling::filling_none, crate::proofs::Filling::filling_end))]
 fn set_switchable_balances(
     scalars: Scalars,
     identities: &[u8],
@@ -45,12 +46,10 @@ fn set_switchable_balances(
         × Switchable scalars.validators
         (validators_of scalars identities.now validators.now) balances.new }
 {
-    let mut i = 0;
-    while i < scalars.validators {
+    for i in 0..scalars.validators {
         let prefix = records::registry::prefix_at(identities, ValidatorIndex(i));
         let balance = records::registry::balance_at(validators, ValidatorIndex(i));
         balances[i] = switchable_amount(prefix, balance);
-        i += 1;
     }
 }
 
@@ -63,11 +62,11 @@ fn credit_deposit(identities: &[u8], d: PendingBalanceDeposit, balances: &mut [u
 {
     let prefix = records::registry::prefix_at(identities, d.index);
     let more = switchable_amount(prefix, d.amount);
-    let i = d.index.0;
-    balances[i] = balances[i] + more;
+    balances[d.index.0] += more;
 }
 
 // The balances after the deposit loop; the result is how many deposits it credits.
+#[tactic(auto, using(crate::proofs::Crediting::crediting_loop))]
 fn process_deposits(
     scalars: Scalars,
     identities: &[u8],
@@ -85,18 +84,16 @@ fn process_deposits(
 {
     set_switchable_balances(scalars, identities, validators, balances);
     let mut processed_amount = 0;
-    let mut k = 0;
-    while k < scalars.deposits {
-        let d = records::queues::deposit_at(deposits, k);
+    for k in 0..scalars.deposits {
+        let d: PendingBalanceDeposit = records::queues::entry_at(deposits, k);
         let amount = d.amount.0;
         if available.0 < processed_amount + amount {
             return k;
         }
         credit_deposit(identities, d, balances);
         processed_amount += amount;
-        k += 1;
     }
-    k
+    scalars.deposits
 }
 
 // The target switches, then the source's active balance goes; the result is how many entries the switch queues.
@@ -110,11 +107,12 @@ fn consolidate(minimum: Gwei, c: PendingConsolidation, balances: &mut [u64; 6553
     let target = c.target_index.0;
     let entries = compounding::excess_entry_count(minimum, balances[target]);
     balances[target] = 0;
-    balances[source] = saturating_sub(balances[source], minimum.0);
+    balances[source] = balances[source].saturating_sub(minimum.0);
     entries
 }
 
 // How many entries the switches of the consolidation step queue, on any books that words and balances represent.
+#[tactic(auto, using(crate::proofs::Counting::counting_loop))]
 fn count_excess_entries(
     settings: Settings,
     scalars: Scalars,
@@ -131,11 +129,9 @@ fn count_excess_entries(
         (consolidations_of scalars consolidations.now) b)) }
 {
     let mut entries = 0;
-    let mut k = 0;
-    while k < scalars.consolidations {
-        let c = records::queues::consolidation_at(consolidations, k);
+    for k in 0..scalars.consolidations {
+        let c: PendingConsolidation = records::queues::entry_at(consolidations, k);
         if records::registry::slashed_at(validators, c.source_index) == 1 {
-            k += 1;
             continue;
         }
         let withdrawable_epoch = records::registry::withdrawable_epoch_at(
@@ -146,7 +142,6 @@ fn count_excess_entries(
             return entries;
         }
         entries += consolidate(settings.min_activation_balance, c, balances);
-        k += 1;
     }
     entries
 }

@@ -1,5 +1,5 @@
 -- The parts of a deposit receipt, by what the code decides before it stores.
-use Rattle.std.specs.Prelude.{◌≡◌, Bool, List, ℕ, ◌+◌, ◌≤◌, leb, eqb}
+use Rattle.std.specs.Prelude.{◌≡◌, Result, Ok, Err, Bool, List, ℕ, ◌+◌, ◌≤◌, leb, eqb}
 use Rattle.std.proofs.Math.Path.{refl, sym, ap}
 use Rattle.std.proofs.Common.{◌∙◌, arith}
 use Rattle.lists.specs.Base.{when◌then◌else◌}
@@ -11,6 +11,8 @@ use Rattle.rules.specs.Acceptance.{held, sound_books}
 use Rattle.rules.specs.Calls.{size_refusal}
 use Rattle.rule_laws.specs.Accepted.{SoundBooks, books_sound, books_sound_so}
 use Rattle.primitives.specs.declared.Scalars.{Scalars}
+use Rattle.primitives.specs.declared.answers.Refusal.{Refusal}
+use Rattle.primitives.specs.Answers.{answer_number, answer_or, refusal_not_0}
 use Rattle.primitives.specs.Scalars as scalars
 use Rattle.records.specs.Layout.{identities_fit, validators_fit, deposits_fit}
 use Rattle.records.specs.Books.{Tables, tables, books_of}
@@ -95,6 +97,14 @@ module _ (S : Settings) (s q : Scalars) (index : ℕ) (t : Tables) (begun : q �
       done = λ z. record { books = (j.done z).books ∙ ap step same_books; beyond = (j.done z).beyond };
       refused = λ w. absurd (w e);
     }
+
+-- behind the receipt start, whatever is answered: a refusal leaves the scalars as they were before it
+pub started_answered : (S : Settings) (s q : Scalars) (index : ℕ) (t : Tables) → q ≡ started s index
+    → {step : Books → Books} {u : Tables} (a : Result Scalars Refusal)
+    → Judged S step q t u (answer_number a) (answer_or q a)
+    → Judged S (λ b. step (start_receipts index b)) s t u (answer_number a) (answer_or s a)
+started_answered S s q index t begun (Ok r) j = started_done S s q index t begun j refl
+started_answered S s q index t begun (Err e) j = started_refused S s q index t begun j (refusal_not_0 e)
 
 -- what is held, with the amount, is the same behind the receipt start and whatever the other tables are
 pub started_sums : (s q : Scalars) (index : ℕ) (t : Tables) → q ≡ started s index → (ids ps cs : List ℕ) (amount : ℕ)

@@ -11,6 +11,7 @@ ghost use Rattle.rules.specs.BlockProcessing.{add_validator_to_registry};
 ghost use Rattle.rules.specs.Acceptance.{held};
 ghost use Rattle.rules.specs.Calls.{handed_refusal, deposit_receipt};
 ghost use Rattle.rule_laws.specs.Accepted.{SoundBooks};
+ghost use Rattle.primitives.specs.Answers.{answer_number, answer_or};
 ghost use Rattle.primitives.specs.Settings.{settings_of};
 ghost use Rattle.records.specs.Layout.{validator_at};
 ghost use Rattle.records.specs.Plain.{plain_validator};
@@ -19,10 +20,8 @@ ghost use Rattle.compounding.specs.Laws.{excess_entry_count};
 ghost use Rattle.call_answers.specs.Answers.{Judged};
 ghost use Rattle.receipt_operations.specs.Receipts.{started, known_deposit, ReceiptReady};
 
-use helpers::lookups::Found;
-use primitives::{
-    Epoch, FAR_FUTURE_EPOCH, Gwei, Outcome, Scalars, Settings, ValidatorIndex, answers,
-};
+use primitives::answers::Refusal;
+use primitives::{Epoch, FAR_FUTURE_EPOCH, Gwei, Scalars, Settings, ValidatorIndex};
 use records::queues::PendingBalanceDeposit;
 use records::validator::Validator;
 
@@ -68,7 +67,7 @@ fn deposit_to_known(
     amount: Gwei,
     switch: bool,
     sums: bool,
-) -> Outcome
+) -> Result<Scalars, Refusal>
     requires receipt_ready { ReceiptReady (settings_of settings) scalars identities.old validators.old deposits.old }
     requires known_validator { (i.0 < scalars.validators)
         × (plain_validator v ≡ validator_at identities.old validators.old i.0)
@@ -83,30 +82,21 @@ fn deposit_to_known(
         → Judged (settings_of settings) (known_deposit (settings_of settings) i.0 amount.0 switch) scalars
         (tables identities.old validators.old deposits.old ps cs)
         (tables identities.new validators.new deposits.new ps cs)
-        result.number result.scalars }
+        (answer_number result) (answer_or scalars result) }
 {
     let n = scalars.deposits;
     let more = queued_by_switch(settings, v, switch);
     let within = n + 1 + more <= settings.pending_balance_deposits_limit;
-    let number = call_answers::size_number(within, sums, true);
-    if number != answers::DONE {
-        return Outcome { number, scalars };
-    }
-    records::queues::push_deposit(deposits, n, PendingBalanceDeposit { index: i, amount });
+    call_answers::size_number(within, sums, true)?;
+    records::queues::push(deposits, n, PendingBalanceDeposit { index: i, amount });
     let queued = scalars.with_deposits(n + 1);
     if !switch {
-        return Outcome {
-            number: answers::DONE,
-            scalars: queued,
-        };
+        return Ok(queued);
     }
     let switched = compounding::switch_to_compounding_validator(
         settings, queued, identities, validators, deposits, i,
     );
-    Outcome {
-        number: answers::DONE,
-        scalars: switched,
-    }
+    Ok(switched)
 }
 
 // ---- an unknown key
@@ -138,7 +128,7 @@ fn add_validator_to_registry(
     withdrawal_credentials: [u8; 32],
     amount: Gwei,
     sums: bool,
-) -> Outcome
+) -> Result<Scalars, Refusal>
     requires receipt_ready { ReceiptReady (settings_of settings) scalars identities.old validators.old deposits.old }
     requires sums_is { (ids ps cs : List ℕ)
         → sums
@@ -151,19 +141,16 @@ fn add_validator_to_registry(
         (add_validator_to_registry public_key withdrawal_credentials amount.0) scalars
         (tables identities.old validators.old deposits.old ps cs)
         (tables identities.new validators.new deposits.new ps cs)
-        result.number result.scalars }
+        (answer_number result) (answer_or scalars result) }
 {
     let n = scalars.validators;
     let m = scalars.deposits;
     let within = (n + 1 <= settings.validator_registry_limit)
         & (m + 1 <= settings.pending_balance_deposits_limit);
-    let number = call_answers::size_number(within, sums, true);
-    if number != answers::DONE {
-        return Outcome { number, scalars };
-    }
+    call_answers::size_number(within, sums, true)?;
     let v = get_validator_from_deposit(public_key, withdrawal_credentials);
     records::registry::push_validator(identities, validators, n, v);
-    records::queues::push_deposit(
+    records::queues::push(
         deposits,
         m,
         PendingBalanceDeposit {
@@ -173,10 +160,7 @@ fn add_validator_to_registry(
     );
     let added = scalars.with_validators(n + 1);
     let queued = added.with_deposits(m + 1);
-    Outcome {
-        number: answers::DONE,
-        scalars: queued,
-    }
+    Ok(queued)
 }
 
 // ---- the call
@@ -192,7 +176,7 @@ fn apply_deposit(
     amount: Gwei,
     valid: bool,
     sums: bool,
-) -> Outcome
+) -> Result<Scalars, Refusal>
     requires receipt_ready { ReceiptReady (settings_of settings) scalars identities.old validators.old deposits.old }
     requires sums_is { (ids ps cs : List ℕ)
         → sums
@@ -205,10 +189,10 @@ fn apply_deposit(
         (apply_deposit (settings_of settings) public_key withdrawal_credentials amount.0 valid) scalars
         (tables identities.old validators.old deposits.old ps cs)
         (tables identities.new validators.new deposits.new ps cs)
-        result.number result.scalars }
+        (answer_number result) (answer_or scalars result) }
 {
     let found = helpers::lookups::position(scalars, identities, public_key);
-    if let Found::At(i) = found {
+    if let Some(i) = found {
         let v = records::registry::validator_at(identities, validators, i);
         let switch = switches(withdrawal_credentials, valid, v);
         return deposit_to_known(
@@ -216,10 +200,7 @@ fn apply_deposit(
         );
     }
     if !valid {
-        return Outcome {
-            number: answers::DONE,
-            scalars,
-        };
+        return Ok(scalars);
     }
     add_validator_to_registry(
         settings,
@@ -249,7 +230,7 @@ pub fn process_deposit_receipt(
     index: u64,
     valid: bool,
     sums: bool,
-) -> Outcome
+) -> Result<Scalars, Refusal>
     requires accepted { handed_refusal (settings_of settings)
         (books_of scalars
         (tables identities.old validators.old deposits.old partials.now consolidations.now))
@@ -265,10 +246,10 @@ pub fn process_deposit_receipt(
         partials.now consolidations.now)
         (tables identities.new validators.new deposits.new
         partials.now consolidations.now)
-        result.number result.scalars }
+        (answer_number result) (answer_or scalars result) }
 {
     let start = start_receipts(scalars, index);
-    let outcome = apply_deposit(
+    apply_deposit(
         settings,
         start,
         identities,
@@ -279,12 +260,5 @@ pub fn process_deposit_receipt(
         amount,
         valid,
         sums,
-    );
-    if outcome.number != answers::DONE {
-        return Outcome {
-            number: outcome.number,
-            scalars,
-        };
-    }
-    outcome
+    )
 }

@@ -1,9 +1,9 @@
 // What was recorded against what was found. Differences are counted, and the first is printed in full.
-use crate::container::at_most;
-use std::io;
-use std::num::wrapping_add_u64;
+use crate::container::Case;
+use std::ops::AddAssign;
+use std::{fmt, io};
 
-#[derive(Clone, Copy)]
+#[derive(Clone, Copy, Default)]
 pub struct Counts {
     pub cases: u64,
     pub calls: u64,
@@ -12,212 +12,134 @@ pub struct Counts {
     pub differences: u64,
 }
 
-// The case that is replayed, its group, the counts of this group and those of the groups before it.
-#[derive(Clone, Copy)]
-pub struct Replay {
-    pub case: u32,
-    pub group: u32,
-    pub of_group: Counts,
-    pub before: Counts,
-    // whether the container was whole so far
-    pub whole: bool,
-}
-
-pub fn start() -> Replay {
-    let none = Counts::none();
-    Replay {
-        case: 0,
-        group: 0,
-        of_group: none,
-        before: none,
-        whole: true,
+impl AddAssign for Counts {
+    fn add_assign(&mut self, more: Counts) {
+        self.cases = self.cases.wrapping_add(more.cases);
+        self.calls = self.calls.wrapping_add(more.calls);
+        self.assignments = self.assignments.wrapping_add(more.assignments);
+        self.compared = self.compared.wrapping_add(more.compared);
+        self.differences = self.differences.wrapping_add(more.differences);
     }
 }
 
-impl Counts {
-    pub fn none() -> Counts {
-        Counts {
-            cases: 0,
-            calls: 0,
-            assignments: 0,
-            compared: 0,
-            differences: 0,
+impl fmt::Display for Counts {
+    fn fmt<W: fmt::Write>(&self, f: &mut fmt::Formatter<W>) -> fmt::Result {
+        write!(f, "cases {} calls {}", self.cases, self.calls)?;
+        write!(f, " assignments {}", self.assignments)?;
+        write!(f, " compared {}", self.compared)?;
+        write!(f, " differences {}", self.differences)
+    }
+}
+
+// Where the differences are printed, the case that is replayed, its group, the counts of this group and those of the
+// groups before it.
+#[derive(Drop)]
+pub struct Replay<'a, P: Print> {
+    to: &'a P,
+    case: u32,
+    group: u32,
+    of_group: Counts,
+    before: Counts,
+}
+
+impl<'a, P: Print> Replay<'a, P> {
+    pub fn new(to: &'a P) -> Self {
+        Replay {
+            to,
+            case: 0,
+            group: 0,
+            of_group: Counts::default(),
+            before: Counts::default(),
         }
     }
 
-    fn plus(self, other: Counts) -> Counts {
-        Counts {
-            cases: wrapping_add_u64(self.cases, other.cases),
-            calls: wrapping_add_u64(self.calls, other.calls),
-            assignments: wrapping_add_u64(self.assignments, other.assignments),
-            compared: wrapping_add_u64(self.compared, other.compared),
-            differences: wrapping_add_u64(self.differences, other.differences),
-        }
-    }
-
-    pub fn print(self, to: &impl Print) -> io::Result<()> {
-        text(to, b" cases ")?;
-        number(to, self.cases)?;
-        text(to, b" calls ")?;
-        number(to, self.calls)?;
-        text(to, b" assignments ")?;
-        number(to, self.assignments)?;
-        text(to, b" compared ")?;
-        number(to, self.compared)?;
-        text(to, b" differences ")?;
-        number(to, self.differences)?;
-        text(to, b"\n")
-    }
-}
-
-impl Replay {
-    pub fn counted(self, more: Counts) -> Replay {
-        let so_far = self.of_group;
-        let of_group = so_far.plus(more);
-        Replay { of_group, ..self }
+    pub fn count(&mut self, more: Counts) {
+        self.of_group += more;
     }
 
     // The counts with this group among those before.
-    pub fn all(self) -> Counts {
-        let of_group = self.of_group;
-        let before = self.before;
-        before.plus(of_group)
+    fn all(&self) -> Counts {
+        let mut all = self.before;
+        all += self.of_group;
+        all
+    }
+
+    fn print_group(&self) -> io::Result<()> {
+        if self.group == 0 {
+            return Ok(());
+        }
+        println!(self.to; "group {:02} {}", self.group, self.of_group)
+    }
+
+    // A case that begins: with another group the counts of the last are printed.
+    pub fn begin(&mut self, case: &Case) -> io::Result<()> {
+        self.case = case.number;
+        if case.group != self.group {
+            self.print_group()?;
+            self.before = self.all();
+            self.group = case.group;
+            self.of_group = Counts::default();
+        }
+        self.count(Counts {
+            cases: 1,
+            ..Counts::default()
+        });
+        Ok(())
+    }
+
+    // The last group, and all of them.
+    pub fn end(&self) -> io::Result<()> {
+        self.print_group()?;
+        println!(self.to; "all groups {}", self.all())
+    }
+
+    // `what` names the thing that is compared.
+    pub fn check(&mut self, what: &str, recorded: &[u8], found: &[u8]) -> io::Result<()> {
+        let difference = first_difference(recorded, found);
+        if let Some(at) = difference {
+            if self.all().differences == 0 {
+                println!(self.to; "difference in case {}: {what}, from byte {at}", self.case)?;
+                print_whole(self.to, "recorded", recorded)?;
+                print_whole(self.to, "found", found)?;
+            }
+        }
+        self.count(Counts {
+            compared: 1,
+            differences: u64::from(difference.is_some()),
+            ..Counts::default()
+        });
+        Ok(())
     }
 }
 
-pub fn text(to: &impl Print, bytes: &[u8]) -> io::Result<()> {
-    to.write_all(bytes)
-}
-
-pub fn number(to: &impl Print, n: u64) -> io::Result<()> {
-    to.print(n)
-}
-
-// The first place where a and b are not the same; the length of the shorter where one begins with the other.
-fn first_difference(a: &[u8], b: &[u8]) -> usize {
-    let mut i: usize = 0;
-    while i < a.len() {
-        if b.len() <= i {
-            return i;
-        }
-        if a[i] != b[i] {
-            return i;
-        }
-        i += 1;
+// The first place where a and b are not the same, which may be the end of the shorter.
+fn first_difference(a: &[u8], b: &[u8]) -> Option<usize> {
+    if a == b {
+        return None;
     }
-    i
-}
-
-// Whether a begins with b.
-pub fn begins_with(a: &[u64], b: &[u64]) -> bool {
-    let mut i: usize = 0;
-    while i < b.len() {
-        if a.len() <= i {
-            return false;
-        }
-        if a[i] != b[i] {
-            return false;
-        }
-        i += 1;
-    }
-    true
+    Some(a.iter().zip(b).take_while(|(x, y)| x == y).count())
 }
 
 fn is_text(bytes: &[u8]) -> bool {
-    let mut i: usize = 0;
-    while i < bytes.len() {
-        let b = bytes[i];
-        if (b != 10) & (b < 32) | (126 < b) {
-            return false;
-        }
-        i += 1;
-    }
-    true
-}
-
-fn wide(b: u8) -> u64 {
-    b as u64
+    bytes.iter().all(|b| matches!(*b, b'\n' | b' '..=b'~'))
 }
 
 // In hexadecimal, 32 bytes a line.
 fn print_bytes(to: &impl Print, bytes: &[u8]) -> io::Result<()> {
     for (i, b) in bytes.iter().enumerate() {
-        print!(to; "{:02x}", wide(*b))?;
+        print!(to; "{b:02x}")?;
         if i % 32 == 31 {
-            text(to, b"\n")?;
+            println!(to)?;
         }
     }
-    text(to, b"\n")
+    println!(to)
 }
 
-fn print_whole(to: &impl Print, name: &[u8], bytes: &[u8]) -> io::Result<()> {
-    text(to, name)?;
-    text(to, b", bytes ")?;
-    number(to, bytes.len() as u64)?;
-    text(to, b"\n")?;
+fn print_whole(to: &impl Print, name: &str, bytes: &[u8]) -> io::Result<()> {
+    println!(to; "{name}, bytes {}", bytes.len())?;
     if is_text(bytes) {
-        text(to, bytes)
+        to.write_all(bytes)
     } else {
         print_bytes(to, bytes)
     }
-}
-
-// `what` names the thing that is compared.
-pub fn check(
-    to: &impl Print,
-    replay: Replay,
-    what: &[u8],
-    recorded: &[u8],
-    found: &[u8],
-) -> io::Result<Replay> {
-    let at = first_difference(recorded, found);
-    let more = Counts {
-        compared: 1,
-        ..Counts::none()
-    };
-    if (at == recorded.len()) & (at == found.len()) {
-        return Ok(replay.counted(more));
-    }
-    let all = replay.all();
-    if all.differences == 0 {
-        text(to, b"difference in case ")?;
-        number(to, replay.case as u64)?;
-        text(to, b": ")?;
-        text(to, what)?;
-        text(to, b", from byte ")?;
-        number(to, at as u64)?;
-        text(to, b"\n")?;
-        print_whole(to, b"recorded", recorded)?;
-        print_whole(to, b"found", found)?;
-    }
-    Ok(replay.counted(Counts {
-        differences: 1,
-        ..more
-    }))
-}
-
-// The same, of the first n bytes of a buffer.
-pub fn check_first(
-    to: &impl Print,
-    replay: Replay,
-    what: &[u8],
-    recorded: &[u8],
-    buffer: &[u8],
-    n: usize,
-) -> io::Result<Replay> {
-    let length = at_most(n, buffer);
-    check(to, replay, what, recorded, &buffer[..length])
-}
-
-// The same, of the first n bytes of both.
-pub fn check_firsts(
-    to: &impl Print,
-    replay: Replay,
-    what: &[u8],
-    recorded: &[u8],
-    buffer: &[u8],
-    n: usize,
-) -> io::Result<Replay> {
-    let length = at_most(n, recorded);
-    check_first(to, replay, what, &recorded[..length], buffer, n)
 }

@@ -1,116 +1,110 @@
 // The container of the recorded cases: the head of a case, and the sections behind it.
-ghost use Rattle.std.specs.Prelude.{◌≤◌, length};
-ghost use Rattle.recorded_cases.specs.Counts.{IsPrefixLen};
+ghost use Rattle.std.specs.Prelude.{length};
+ghost use Rattle.std.specs.Iterator.{at_most};
 
 use file_words::word_at;
 use full_reads::read_full;
 use std::io;
 use std::io::Read;
 
-// The flags of a case.
-pub const PROGRAM: u32 = 1;
-
-pub const LIBRARY: u32 = 2;
-
-pub const STEPS_ALONE: u32 = 4;
-
-pub const LENT: u32 = 8;
-
-// The kinds of sections.
-pub const OPENING: u32 = 1;
-
-pub const CALLS: u32 = 2;
-
-pub const PRINTED: u32 = 3;
-
-pub const CLOSING: u32 = 4;
-
-pub const EXPECTED: u32 = 5;
-
-pub const ASSIGNMENTS: u32 = 6;
-
-#[derive(Clone, Copy)]
-pub struct Case {
-    pub number: u32,
-    pub group: u32,
-    pub flags: u32,
-    pub room: usize,
-    pub bytes: usize,
-    pub whole: bool,
+// Why no case was read.
+#[derive(Debug, Drop)]
+pub enum Fault {
+    Broken,
+    Io(io::Error),
 }
 
-impl Case {
-    pub fn has_flag(self, flag: u32) -> bool {
-        self.flags & flag != 0
+impl From<io::Error> for Fault {
+    fn from(e: io::Error) -> Fault {
+        Fault::Io(e)
     }
 }
 
-// The head of the next case.
-pub fn next_case(file: &mut impl Read) -> io::Result<Case> {
+// Each is a bit of its own.
+#[derive(Clone, Copy)]
+pub enum Flag {
+    Program = 1,
+    Library = 2,
+    StepsAlone = 4,
+    Lent = 8,
+}
+
+#[derive(Clone, Copy)]
+pub enum Section {
+    Opening = 1,
+    Calls = 2,
+    Printed = 3,
+    Closing = 4,
+    Expected = 5,
+    Assignments = 6,
+}
+
+// A case: its number and its group, its flags, the room of the tables, and its sections.
+#[derive(Clone, Copy)]
+pub struct Case<'a> {
+    pub number: u32,
+    pub group: u32,
+    flags: u32,
+    pub room: usize,
+    sections: &'a [u8],
+}
+
+// The sections from here on: the kind and the payload of each, which is padded to whole words.
+#[derive(Drop)]
+struct Sections<'a>(&'a [u8]);
+
+impl<'a> Iterator for Sections<'a> {
+    type Item = (u32, &'a [u8]);
+
+    ghost remaining = { λ s. at_most (length s.0.now) };
+
+    fn next(&mut self) -> Option<(u32, &'a [u8])> {
+        let (head, behind) = self.0.split_first_chunk::<8>()?;
+        let (payload, rest) = behind.split_at_checked(word_at(head, 1) as usize)?;
+        let padding = payload.len().wrapping_neg() % 4;
+        self.0 = rest.get(padding..).unwrap_or(&[]);
+        Some((word_at(head, 0), payload))
+    }
+}
+
+impl<'a> Case<'a> {
+    pub fn has(&self, flag: Flag) -> bool {
+        self.flags & flag as u32 != 0
+    }
+
+    // The payload of the section of this kind; empty where there is none.
+    pub fn payload(&self, section: Section) -> &'a [u8] {
+        let wanted = section as u32;
+        for (kind, payload) in Sections(self.sections) {
+            if kind == wanted {
+                return payload;
+            }
+        }
+        &[]
+    }
+}
+
+// The next case, its sections put into a buffer.
+pub fn next_case<'a>(
+    file: &mut impl Read,
+    buffer: &'a mut [u8; 368640],
+) -> Result<Case<'a>, Fault> {
     let mut head = [0u8; 24];
     let got = read_full(file, &mut head)?;
-    let room = word_at(&head, 3);
-    let bytes = word_at(&head, 5);
+    let room = word_at(&head, 3) as usize;
+    let bytes = word_at(&head, 5) as usize;
+    if got != 24 || 512 < room || 368640 < bytes {
+        return Err(Fault::Broken);
+    }
+    let sections = &mut buffer[..bytes];
+    if read_full(file, sections)? != bytes {
+        return Err(Fault::Broken);
+    }
     Ok(Case {
         number: word_at(&head, 0),
         group: word_at(&head, 1),
         flags: word_at(&head, 2),
-        room: room as usize,
-        bytes: bytes as usize,
-        whole: (got == 24) & (room <= 512) & (bytes <= 368640),
+        room,
+        sections,
     })
-}
-
-#[derive(Clone, Copy)]
-struct Span {
-    start: usize,
-    end: usize,
-}
-
-fn within(bytes: &[u8], start: usize, end: usize) -> Span
-    ensures { (result.start ≤ result.end) × (result.end ≤ length bytes.now) }
-{
-    if start <= end {
-        if end <= bytes.len() {
-            return Span { start, end };
-        }
-    }
-    Span { start: 0, end: 0 }
-}
-
-// Where the payload of the section of this kind stands; nowhere where there is none.
-fn section(bytes: &[u8], kind: u32) -> Span
-    ensures { (result.start ≤ result.end) × (result.end ≤ length bytes.now) }
-{
-    let words = bytes.len() / 4;
-    if 0x1000_0000 < words {
-        return within(bytes, 0, 0);
-    }
-    let mut k: usize = 0;
-    while k < words {
-        let n = word_at(bytes, k + 1) as usize;
-        if word_at(bytes, k) == kind {
-            return within(bytes, k * 4 + 8, k * 4 + 8 + n);
-        }
-        k += 2 + (n + 3) / 4;
-    }
-    within(bytes, 0, 0)
-}
-
-// The payload of the section of this kind; empty where there is none.
-pub fn payload(bytes: &[u8], kind: u32) -> &[u8] {
-    let span = section(bytes, kind);
-    let start = span.start;
-    let end = span.end;
-    &bytes[start..end]
-}
-
-// n, where the buffer has so many bytes; less where it has not.
-pub fn at_most(n: usize, bytes: &[u8]) -> usize
-    ensures { IsPrefixLen result bytes.now }
-{
-    if n < 0x1000_0000 {
-        return n.min(bytes.len());
-    }
-    0
 }

@@ -3,8 +3,7 @@
 
 #![tactic(auto)]
 
-pub mod buffers; // what is lent
+pub mod books; // what is lent
 pub mod compare; // recorded against found
 pub mod container; // cases and their sections
 pub mod laid; // books laid into tables without a test
-pub mod words; // the words of the container

@@ -1,32 +1,9 @@
--- Comparisons and copies of bytes, byte by byte.
-use Rattle.std.specs.Prelude.{◌≡◌, refl, Bool, true, false, ◌&&◌, List, ◌++◌, ℕ, ◌+◌, ◌-◌, ◌≤◌, ◌<◌, eqb, ltb, length, get_or, take, drop}
-use Rattle.std.proofs.Common.{ap, ap₂, sym, ◌∙◌, append_assoc, add-one, arith, drop_of_length-le, drop-cons, get_or-take, get_or-drop, length-take-le, take_at, drop_at, ltb-true, ltb-false}
+-- Copies of bytes.
+use Rattle.std.specs.Prelude.{◌≡◌, refl, Bool, true, false, List, ◌++◌, ℕ, ◌+◌, ◌-◌, ◌≤◌, ◌<◌, ltb, length, get_or, take, drop}
+use Rattle.std.proofs.Common.{ap, sym, ◌∙◌, append_assoc, arith, get_or-take, get_or-drop, length-take-le, take_at, drop_at, ltb-true, ltb-false}
 use Rattle.std.proofs.Math.Seq.{paste}
 use Rattle.std.proofs.lemmas.List.Edits.{length-paste, drop-paste}
-use Rattle.lists.specs.Base.{same_bytes}
-use Rattle.lists.specs.Laws.{and_true}
 use Rattle.tables.specs.Words.{Outside}
-
--- ---- a loop that compares every byte: `same` so far, and what is left
-
-same_bytes_step : (a b : List ℕ) (j : ℕ) → j < length a → j < length b
-    → same_bytes (drop j a) (drop j b)
-    ≡ (eqb (get_or a j 0) (get_or b j 0) && same_bytes (drop (j + 1) a) (drop (j + 1) b))
-same_bytes_step a b j h k = rw (add-one, drop-cons a j 0 h, drop-cons b j 0 k)
-
-pub same_bytes_more : (a b : List ℕ) (j : ℕ) (same : Bool)
-    → (same && same_bytes (drop j a) (drop j b)) ≡ same_bytes a b → j < length a → j < length b
-    → ((same && eqb (get_or a j 0) (get_or b j 0)) && same_bytes (drop (j + 1) a) (drop (j + 1) b)) ≡ same_bytes a b
-same_bytes_more a b j true inv h k = sym (same_bytes_step a b j h k) ∙ inv
-same_bytes_more a b j false inv h k = inv
-
-pub same_bytes_done : (a b : List ℕ) (j : ℕ) (same : Bool)
-    → (same && same_bytes (drop j a) (drop j b)) ≡ same_bytes a b → length a ≤ j → length b ≤ j
-    → same ≡ same_bytes a b
-same_bytes_done a b j same inv h k =
-    sym (and_true same)
-    ∙ sym (ap (λ t. same && t) (ap₂ same_bytes (drop_of_length-le a {i = j} h) (drop_of_length-le b {i = j} k)))
-    ∙ inv
 
 -- a byte of a part
 pub get_d_part : (l : List ℕ) (at n j : ℕ) → j < n → get_or (take n (drop at l)) j 0 ≡ get_or l (at + j) 0

@@ -6,5 +6,7 @@ pub mod Plain
 pub mod Books
 pub mod Reading
 pub mod Stores
+pub mod Entries
 pub mod Queues
 pub mod Fixed
+pub mod Lent

@@ -1,5 +1,8 @@
 -- The declared structs as the rules' records.
+use Rattle.std.specs.Prelude.{List, [], ◌∷◌, ℕ}
 use Rattle.rules.specs.Types as rule
+use Rattle.records.specs.declared.registry.Column.{Column}
+use Rattle.records.specs.declared.registry.Column.TheVariants.{Slashed, EffectiveBalance, ActivationEligibilityEpoch, ActivationEpoch, ExitEpoch, WithdrawableEpoch, Balance}
 use Rattle.records.specs.declared.validator.Validator.{Validator}
 use Rattle.records.specs.declared.queues.PendingBalanceDeposit.{PendingBalanceDeposit}
 use Rattle.records.specs.declared.queues.PendingPartialWithdrawal.{PendingPartialWithdrawal}
@@ -17,6 +20,21 @@ plain_validator v = record {
   withdrawable_epoch = v.withdrawable_epoch.0;
   balance = v.balance.0;
 }
+
+-- in the order of the registry's columns
+abbrev pub validator_words : rule.Validator → List ℕ
+validator_words v =
+    v.slashed ∷ v.effective_balance ∷ v.activation_eligibility_epoch ∷ v.activation_epoch ∷ v.exit_epoch
+    ∷ v.withdrawable_epoch ∷ v.balance ∷ []
+
+abbrev pub column_number : Column → ℕ
+column_number Slashed = 0
+column_number EffectiveBalance = 1
+column_number ActivationEligibilityEpoch = 2
+column_number ActivationEpoch = 3
+column_number ExitEpoch = 4
+column_number WithdrawableEpoch = 5
+column_number Balance = 6
 
 abbrev pub plain_deposit : PendingBalanceDeposit → rule.PendingBalanceDeposit
 plain_deposit d = record { index = d.index.0; amount = d.amount.0 }

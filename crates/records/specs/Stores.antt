@@ -47,11 +47,6 @@ pub word_read : (k : ℕ) (ws : List ℕ) (i : ℕ) → i < validators_fit ws
 unfolding word_at
 word_read k ws i h = sym (column_read (validators_fit ws) k ws i h)
 
--- where word k of validator i stands
-pub word_within : (k : ℕ) (ws : List ℕ) (i : ℕ) → k < 7 → i < validators_fit ws
-    → k * validators_fit ws + i < length ws
-word_within k ws i b h = omega (arith, column_within 7 (validators_fit ws) k i b h)
-
 -- word k of validator i becomes x
 abbrev pub put_word : ℕ → List ℕ → ℕ → ℕ → List ℕ
 put_word k ws i x = set ws (k * validators_fit ws + i) x
@@ -409,6 +404,12 @@ abbrev pub put_words : List ℕ → ℕ → (a b c d e f g : ℕ) → List ℕ
 put_words ws n a b c d e f g =
     put_word 6
     (put_word 5 (put_word 4 (put_word 3 (put_word 2 (put_word 1 (put_word 0 ws n a) n b) n c) n d) n e) n f) n g
+
+-- the same, of a list of seven words
+abbrev pub put_row : List ℕ → ℕ → List ℕ → List ℕ
+put_row ws n r =
+    put_words ws n (get_or r 0 0) (get_or r 1 0) (get_or r 2 0) (get_or r 3 0) (get_or r 4 0) (get_or r 5 0)
+    (get_or r 6 0)
 
 -- the words of validator v
 module _ (ws : List ℕ) (n : ℕ) (v : Validator) where

@@ -6,3 +6,4 @@ pub mod bytes; // copies and comparisons of fixed bytes
 pub mod validator; // the validator record and its tests
 pub mod registry; // the identities and the validators' words
 pub mod queues; // deposits, partial withdrawals, consolidations
+pub mod books; // scalars and tables lent together for reading

@@ -1,10 +1,10 @@
-// The three queues: two words a deposit, three a partial withdrawal, two a consolidation.
-ghost use Rattle.std.specs.Prelude.{◌≡◌, ◌+◌, ◌<◌, ◌≤◌, length};
+// The three queues: tables of records of so many words each.
+ghost use Rattle.std.specs.Prelude.{◌≡◌, List, ℕ, ◌+◌, ◌/◌, ◌<◌, ◌≤◌, length};
 ghost use Rattle.records.specs.Layout.{deposit_at, partial_at, consolidation_at};
-ghost use Rattle.records.specs.Layout.{deposits_fit, partials_fit, consolidations_fit};
 ghost use Rattle.records.specs.Plain.{plain_deposit, plain_partial, plain_consolidation};
-ghost use Rattle.records.specs.Queues.{Moved, DepositPushed, PartialPushed, ConsolidationPushed};
-ghost use Rattle.records.specs.Queues.{DepositsDrained, PartialsDrained, ConsolidationsDrained};
+ghost use Rattle.records.specs.Entries.{OwnWords, own_deposit, own_partial, own_consolidation};
+ghost use Rattle.records.specs.Queues.{Pushed, Drained};
+ghost use Rattle.rules.specs.Types as rule;
 
 use primitives::{Epoch, Gwei, ValidatorIndex};
 
@@ -27,116 +27,139 @@ pub struct PendingConsolidation {
     pub target_index: ValidatorIndex,
 }
 
-pub fn deposit_at(deposits: &[u64], i: usize) -> PendingBalanceDeposit
-    requires { i < deposits_fit deposits.now }
-    ensures { plain_deposit result ≡ deposit_at deposits.now i }
-{
-    PendingBalanceDeposit {
-        index: ValidatorIndex(deposits[2 * i] as usize),
-        amount: Gwei(deposits[2 * i + 1]),
+// What a queue holds: how many words a record takes, what they mean, and how it is read and stored.
+pub trait QueueEntry: Copy {
+    const WORDS: usize;
+
+    ghost WORDS: { ℕ };
+
+    // The rule's record, of a value and of place i in a table.
+    ghost Record: { Type 0 };
+
+    ghost plain: { Self → Record };
+
+    ghost record_at: { List ℕ → ℕ → Record };
+
+    fn from_words(words: &[u64]) -> Self
+        requires { length words.now ≡ WORDS }
+        ensures { plain result ≡ record_at words.now 0 };
+
+    fn store(self, words: &mut [u64])
+        requires { length words.old ≡ WORDS }
+        ensures { record_at words.new 0 ≡ plain self };
+
+    ghost own_words: { OwnWords WORDS record_at };
+}
+
+impl QueueEntry for PendingBalanceDeposit {
+    const WORDS: usize = 2;
+
+    ghost WORDS = { 2 };
+
+    ghost Record = { rule.PendingBalanceDeposit };
+
+    ghost plain = { plain_deposit };
+
+    ghost record_at = { deposit_at };
+
+    ghost own_words = { own_deposit };
+
+    fn from_words(words: &[u64]) -> Self {
+        PendingBalanceDeposit {
+            index: ValidatorIndex(words[0] as usize),
+            amount: Gwei(words[1]),
+        }
+    }
+
+    fn store(self, words: &mut [u64]) {
+        words[0] = self.index.0 as u64;
+        words[1] = self.amount.0;
     }
 }
 
-pub fn partial_at(partials: &[u64], i: usize) -> PendingPartialWithdrawal
-    requires { i < partials_fit partials.now }
-    ensures { plain_partial result ≡ partial_at partials.now i }
-{
-    PendingPartialWithdrawal {
-        index: ValidatorIndex(partials[3 * i] as usize),
-        amount: Gwei(partials[3 * i + 1]),
-        withdrawable_epoch: Epoch(partials[3 * i + 2]),
+impl QueueEntry for PendingPartialWithdrawal {
+    const WORDS: usize = 3;
+
+    ghost WORDS = { 3 };
+
+    ghost Record = { rule.PendingPartialWithdrawal };
+
+    ghost plain = { plain_partial };
+
+    ghost record_at = { partial_at };
+
+    ghost own_words = { own_partial };
+
+    fn from_words(words: &[u64]) -> Self {
+        PendingPartialWithdrawal {
+            index: ValidatorIndex(words[0] as usize),
+            amount: Gwei(words[1]),
+            withdrawable_epoch: Epoch(words[2]),
+        }
+    }
+
+    fn store(self, words: &mut [u64]) {
+        words[0] = self.index.0 as u64;
+        words[1] = self.amount.0;
+        words[2] = self.withdrawable_epoch.0;
     }
 }
 
-pub fn consolidation_at(consolidations: &[u64], i: usize) -> PendingConsolidation
-    requires { i < consolidations_fit consolidations.now }
-    ensures { plain_consolidation result ≡ consolidation_at consolidations.now i }
-{
-    PendingConsolidation {
-        source_index: ValidatorIndex(consolidations[2 * i] as usize),
-        target_index: ValidatorIndex(consolidations[2 * i + 1] as usize),
+impl QueueEntry for PendingConsolidation {
+    const WORDS: usize = 2;
+
+    ghost WORDS = { 2 };
+
+    ghost Record = { rule.PendingConsolidation };
+
+    ghost plain = { plain_consolidation };
+
+    ghost record_at = { consolidation_at };
+
+    ghost own_words = { own_consolidation };
+
+    fn from_words(words: &[u64]) -> Self {
+        PendingConsolidation {
+            source_index: ValidatorIndex(words[0] as usize),
+            target_index: ValidatorIndex(words[1] as usize),
+        }
+    }
+
+    fn store(self, words: &mut [u64]) {
+        words[0] = self.source_index.0 as u64;
+        words[1] = self.target_index.0 as u64;
     }
 }
 
-// ---- how many records fit
-
-pub fn deposits_fit(deposits: &[u64]) -> usize
-    ensures { result ≡ deposits_fit deposits.now }
+// How many records fit.
+pub fn entries_fit<E: QueueEntry>(table: &[u64]) -> usize
+    ensures { result ≡ length table.now / E.WORDS }
 {
-    deposits.len() / 2
+    table.len() / E::WORDS
 }
 
-pub fn partials_fit(partials: &[u64]) -> usize
-    ensures { result ≡ partials_fit partials.now }
+pub fn entry_at<E: QueueEntry>(table: &[u64], i: usize) -> E
+    requires { i < length table.now / E.WORDS }
+    ensures { E.plain result ≡ E.record_at table.now i }
 {
-    partials.len() / 3
+    let at = E::WORDS * i;
+    E::from_words(&table[at..at + E::WORDS])
 }
 
-pub fn consolidations_fit(consolidations: &[u64]) -> usize
-    ensures { result ≡ consolidations_fit consolidations.now }
+// One record more, behind the first n.
+pub fn push<E: QueueEntry>(table: &mut [u64], n: usize, e: E)
+    requires { n < length table.old / E.WORDS }
+    ensures { Pushed E.record_at E.WORDS n (E.plain e) table.old table.new }
 {
-    consolidations.len() / 2
+    let at = E::WORDS * n;
+    e.store(&mut table[at..at + E::WORDS]);
 }
 
-// ---- one record more, behind the first n
-
-pub fn push_deposit(deposits: &mut [u64], n: usize, d: PendingBalanceDeposit)
-    requires { n < deposits_fit deposits.old }
-    ensures { DepositPushed n (plain_deposit d) deposits.old deposits.new }
+// The Rust's drain: the records behind the first `gone` move down, and the words behind them stay.
+pub fn drain<E: QueueEntry>(table: &mut [u64], gone: usize, left: usize)
+    requires { gone + left ≤ length table.old / E.WORDS }
+    ensures { Drained E.record_at E.WORDS gone left table.old table.new }
 {
-    deposits[2 * n] = d.index.0 as u64;
-    deposits[2 * n + 1] = d.amount.0;
-}
-
-pub fn push_partial(partials: &mut [u64], n: usize, p: PendingPartialWithdrawal)
-    requires { n < partials_fit partials.old }
-    ensures { PartialPushed n (plain_partial p) partials.old partials.new }
-{
-    partials[3 * n] = p.index.0 as u64;
-    partials[3 * n + 1] = p.amount.0;
-    partials[3 * n + 2] = p.withdrawable_epoch.0;
-}
-
-pub fn push_consolidation(consolidations: &mut [u64], n: usize, c: PendingConsolidation)
-    requires { n < consolidations_fit consolidations.old }
-    ensures { ConsolidationPushed n (plain_consolidation c)
-        consolidations.old consolidations.new }
-{
-    consolidations[2 * n] = c.source_index.0 as u64;
-    consolidations[2 * n + 1] = c.target_index.0 as u64;
-}
-
-// ---- the Rust's drain: the records behind the first `gone` move down, and the words behind them stay
-
-// Moves `count` words from `from` on down to the start.
-pub fn move_down(words: &mut [u64], from: usize, count: usize)
-    requires { from + count ≤ length words.old }
-    ensures { Moved from count words.old words.new }
-{
-    let mut j = 0;
-    while j < count {
-        words[j] = words[from + j];
-        j += 1;
-    }
-}
-
-pub fn drain_deposits(deposits: &mut [u64], gone: usize, left: usize)
-    requires { gone + left ≤ deposits_fit deposits.old }
-    ensures { DepositsDrained gone left deposits.old deposits.new }
-{
-    move_down(deposits, 2 * gone, 2 * left);
-}
-
-pub fn drain_partials(partials: &mut [u64], gone: usize, left: usize)
-    requires { gone + left ≤ partials_fit partials.old }
-    ensures { PartialsDrained gone left partials.old partials.new }
-{
-    move_down(partials, 3 * gone, 3 * left);
-}
-
-pub fn drain_consolidations(consolidations: &mut [u64], gone: usize, left: usize)
-    requires { gone + left ≤ consolidations_fit consolidations.old }
-    ensures { ConsolidationsDrained gone left consolidations.old consolidations.new }
-{
-    move_down(consolidations, 2 * gone, 2 * left);
+    let from = E::WORDS * gone;
+    table.copy_within(from..from + E::WORDS * left, 0);
 }

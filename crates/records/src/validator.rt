@@ -5,8 +5,9 @@ ghost use Rattle.rules.specs.Helpers.{has_execution_withdrawal_credential, get_v
 ghost use Rattle.rules.specs.Helpers.{is_fully_withdrawable_validator, is_partially_withdrawable_validator};
 ghost use Rattle.rules.specs.Helpers.{is_active_validator, withdrawal_address};
 ghost use Rattle.primitives.specs.Settings.{settings_of};
-ghost use Rattle.records.specs.Plain.{plain_validator};
+ghost use Rattle.records.specs.Plain.{plain_validator, validator_words};
 
+use crate::bytes::bytes_at;
 use primitives::{Epoch, Gwei, Settings};
 
 // A flag in `slashed`: 0 or 1.
@@ -52,6 +53,7 @@ impl Validator {
         }
     }
 
+    #[tactic(auto, unfolding(rules::specs::Helpers::is_fully_withdrawable_validator))]
     pub fn is_fully_withdrawable_validator(self, epoch: Epoch) -> bool
         ensures { result ≡ is_fully_withdrawable_validator epoch.0 (plain_validator self) }
     {
@@ -59,6 +61,7 @@ impl Validator {
             && (self.withdrawable_epoch.0 <= epoch.0 && 0 < self.balance.0)
     }
 
+    #[tactic(auto, unfolding(rules::specs::Helpers::is_partially_withdrawable_validator))]
     pub fn is_partially_withdrawable_validator(self, settings: Settings) -> bool
         ensures { result ≡ is_partially_withdrawable_validator (settings_of settings) (plain_validator self) }
     {
@@ -77,13 +80,21 @@ impl Validator {
     pub fn withdrawal_address(self) -> [u8; 20]
         ensures { result ≡ withdrawal_address (plain_validator self) }
     {
-        let credentials = self.withdrawal_credentials;
-        let mut out = [0u8; 20];
-        let mut j = 0;
-        while j < 20 {
-            out[j] = credentials[12 + j];
-            j += 1;
-        }
-        out
+        bytes_at(&self.withdrawal_credentials, 12)
+    }
+
+    // In the order of the registry's columns.
+    pub fn words(self) -> [u64; 7]
+        ensures { result ≡ validator_words (plain_validator self) }
+    {
+        [
+            self.slashed,
+            self.effective_balance.0,
+            self.activation_eligibility_epoch.0,
+            self.activation_epoch.0,
+            self.exit_epoch.0,
+            self.withdrawable_epoch.0,
+            self.balance.0,
+        ]
     }
 }

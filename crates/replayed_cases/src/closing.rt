@@ -1,207 +1,72 @@
 // What is compared on the closing books.
+use crate::opened::Refused;
 use crate::printed::refusal;
-use file_stores::Written;
-use primitives::{Scalars, Settings, answers};
-use recorded_cases::compare::{Replay, check_first};
-use recorded_cases::container;
-use recorded_cases::container::at_most;
+use primitives::answers;
+use recorded_cases::books::{Books, Output};
+use recorded_cases::compare::Replay;
+use recorded_cases::container::{Case, Flag, Section};
 use replayed_parts::{expected, unchanged};
 use std::io;
 
-// The books written into the first n bytes of a buffer.
-fn write(
-    settings: Settings,
-    scalars: Scalars,
-    identities: &[u8],
-    validators: &[u64],
-    deposits: &[u64],
-    partials: &[u64],
-    consolidations: &[u64],
-    buffer: &mut [u8],
-    n: usize,
-) -> Written {
-    let room = at_most(n, buffer);
-    books_writer::write_books(
-        settings,
-        scalars,
-        identities,
-        validators,
-        deposits,
-        partials,
-        consolidations,
-        &mut buffer[..room],
-    )
+// How many bytes the books have in the buffer.
+fn write(books: &Books, buffer: &mut [u8]) -> Result<usize, Refused> {
+    books_writer::write_books(books.settings, &books.see(), buffer).map_err(|refusal| Refused(
+        refusal.number(),
+    ))
+}
+
+fn is_refused(books: &Books) -> bool {
+    electra::total::held(books.settings, &books.see()).is_err()
 }
 
 // The closing books, written into a buffer that they fill.
-fn closing(
-    to: &impl Print,
-    replay: Replay,
-    settings: Settings,
-    scalars: Scalars,
-    identities: &[u8],
-    validators: &[u64],
-    deposits: &[u64],
-    partials: &[u64],
-    consolidations: &[u64],
-    sections: &[u8],
-    out: &mut [u8; 319991],
-) -> io::Result<Replay> {
-    let recorded = container::payload(sections, container::CLOSING);
-    let written = write(
-        settings,
-        scalars,
-        identities,
-        validators,
-        deposits,
-        partials,
-        consolidations,
-        out,
-        recorded.len(),
-    );
-    if written.number != answers::DONE {
-        return refusal(to, replay, written.number, recorded, out);
+fn closing<P: Print>(
+    replay: &mut Replay<P>,
+    books: &Books,
+    recorded: &[u8],
+    out: &mut Output,
+) -> io::Result<()> {
+    let room = recorded.len().min(out.len());
+    match write(books, &mut out[..room]) {
+        Ok(n) => {
+            let length = n.min(out.len());
+            replay.check("closing books", recorded, &out[..length])
+        }
+        Err(refused) => refusal(replay, refused, recorded, out),
     }
-    check_first(to, replay, b"closing books", recorded, out, written.length)
 }
 
 // In a buffer that is a byte shorter the writer answers 61.
-fn closing_short(
-    to: &impl Print,
-    replay: Replay,
-    settings: Settings,
-    scalars: Scalars,
-    identities: &[u8],
-    validators: &[u64],
-    deposits: &[u64],
-    partials: &[u64],
-    consolidations: &[u64],
-    sections: &[u8],
-    out: &mut [u8; 319991],
-) -> io::Result<Replay> {
-    let recorded = container::payload(sections, container::CLOSING);
-    if recorded.len() == 0 {
-        return Ok(replay);
+fn closing_short<P: Print>(
+    replay: &mut Replay<P>,
+    books: &Books,
+    recorded: &[u8],
+    out: &mut Output,
+) -> io::Result<()> {
+    if recorded.is_empty() {
+        return Ok(());
     }
-    let written = write(
-        settings,
-        scalars,
-        identities,
-        validators,
-        deposits,
-        partials,
-        consolidations,
-        out,
-        recorded.len() - 1,
-    );
-    refusal(to, replay, written.number, b"refused 61\n", out)
+    let room = (recorded.len() - 1).min(out.len());
+    let refused = match write(books, &mut out[..room]) {
+        Ok(_) => Refused(answers::DONE),
+        Err(refused) => refused,
+    };
+    refusal(replay, refused, b"refused 61\n", out)
 }
 
-// The closing books, in a buffer that they fill and in one that is too short, and the list that is expected on them.
-fn check_closing(
-    to: &impl Print,
-    replay: Replay,
-    settings: Settings,
-    scalars: Scalars,
-    identities: &[u8],
-    validators: &[u64],
-    deposits: &[u64],
-    partials: &[u64],
-    consolidations: &[u64],
-    sections: &[u8],
-    out: &mut [u8; 319991],
-) -> io::Result<Replay> {
-    let r = closing(
-        to,
-        replay,
-        settings,
-        scalars,
-        identities,
-        validators,
-        deposits,
-        partials,
-        consolidations,
-        sections,
-        out,
-    )?;
-    let s = closing_short(
-        to,
-        r,
-        settings,
-        scalars,
-        identities,
-        validators,
-        deposits,
-        partials,
-        consolidations,
-        sections,
-        out,
-    )?;
-    expected::check_list(
-        to,
-        s,
-        settings,
-        scalars,
-        identities,
-        validators,
-        deposits,
-        partials,
-        consolidations,
-        sections,
-        out,
-    )
-}
-
-// What is compared on the closing books; of books that were lent and refused, that they are unchanged.
-pub fn afterwards(
-    to: &impl Print,
-    replay: Replay,
-    lent: bool,
-    settings: Settings,
-    scalars: Scalars,
-    identities: &[u8],
-    validators: &[u64],
-    deposits: &[u64],
-    partials: &[u64],
-    consolidations: &[u64],
-    sections: &[u8],
-    out: &mut [u8; 319991],
-) -> io::Result<Replay> {
-    let handed = electra::total::held(
-        settings,
-        scalars,
-        identities,
-        validators,
-        deposits,
-        partials,
-        consolidations,
-    );
-    if lent & (handed.number() != answers::DONE) {
-        return unchanged::check_unchanged(
-            to,
-            replay,
-            settings,
-            scalars,
-            identities,
-            validators,
-            deposits,
-            partials,
-            consolidations,
-            sections,
-            out,
-        );
+// What is compared on the closing books, and the list that is expected on them; of books that were lent and refused,
+// that they are unchanged.
+pub fn afterwards<P: Print>(
+    replay: &mut Replay<P>,
+    case: &Case,
+    books: &Books,
+    out: &mut Output,
+) -> io::Result<()> {
+    if case.has(Flag::Lent) && is_refused(books) {
+        return unchanged::check_unchanged(replay, case, books);
     }
-    check_closing(
-        to,
-        replay,
-        settings,
-        scalars,
-        identities,
-        validators,
-        deposits,
-        partials,
-        consolidations,
-        sections,
-        out,
-    )
+    let recorded = case.payload(Section::Closing);
+    closing(replay, books, recorded, out)?;
+    closing_short(replay, books, recorded, out)?;
+    expected::check_list(replay, case, books)
 }

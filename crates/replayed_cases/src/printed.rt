@@ -1,48 +1,49 @@
 // What `books` prints: a refusal, or the table.
-use recorded_cases::compare::{Counts, Replay, check, check_first};
-use recorded_cases::container;
+use crate::opened::Refused;
+use recorded_cases::books::{Output, Results};
+use recorded_cases::compare::{Counts, Replay};
+use recorded_cases::container::{Case, Section};
 use std::io;
 
-pub fn refusal(
-    to: &impl Print,
-    replay: Replay,
-    number: u8,
+pub fn refusal<P: Print>(
+    replay: &mut Replay<P>,
+    refused: Refused,
     recorded: &[u8],
-    out: &mut [u8; 319991],
-) -> io::Result<Replay> {
-    let put = table_text::put_refused(out, number);
-    check_first(to, replay, b"refusal", recorded, out, put)
+    out: &mut Output,
+) -> io::Result<()> {
+    let put = table_text::put_refused(out, refused.0);
+    let length = put.min(out.len());
+    replay.check("refusal", recorded, &out[..length])
 }
 
 // A refusal in place of the table.
-pub fn refused(
-    to: &impl Print,
-    replay: Replay,
-    number: u8,
-    sections: &[u8],
-    out: &mut [u8; 319991],
-) -> io::Result<Replay> {
-    let recorded = container::payload(sections, container::PRINTED);
-    refusal(to, replay, number, recorded, out)
+pub fn refused<P: Print>(
+    replay: &mut Replay<P>,
+    case: &Case,
+    refused: Refused,
+    out: &mut Output,
+) -> io::Result<()> {
+    refusal(replay, refused, case.payload(Section::Printed), out)
 }
 
 // The table of the answers.
-pub fn table(
-    to: &impl Print,
-    replay: Replay,
-    results: &[u64; 29997],
+pub fn table<P: Print>(
+    replay: &mut Replay<P>,
+    case: &Case,
+    results: &Results,
     count: usize,
-    sections: &[u8],
-    out: &mut [u8; 319991],
-) -> io::Result<Replay> {
-    let recorded = container::payload(sections, container::PRINTED);
+    out: &mut Output,
+) -> io::Result<()> {
+    let recorded = case.payload(Section::Printed);
     if 9999 < count {
-        return check(to, replay, b"count of the calls", recorded, b"");
+        return replay.check("count of the calls", recorded, b"");
     }
     let put = table_text::put_table(results, count, out);
-    let r = check_first(to, replay, b"table", recorded, out, put)?;
-    Ok(r.counted(Counts {
+    let length = put.min(out.len());
+    replay.check("table", recorded, &out[..length])?;
+    replay.count(Counts {
         calls: count as u64,
-        ..Counts::none()
-    }))
+        ..Counts::default()
+    });
+    Ok(())
 }

@@ -1,70 +1,65 @@
 // Bare assignments: rows of five numbers, and the answer, what is left, and the epoch.
-ghost use Rattle.std.specs.Prelude.{◌≤◌, ◌^◌};
-
-use helpers::assignment;
+use helpers::assignment::{self, Assignment};
+use primitives::answers::answer_number;
 use primitives::{Epoch, Gwei};
-use recorded_cases::compare::{Counts, Replay, check_first};
-use recorded_cases::words::{number, put_number, put_word};
+use recorded_cases::books::Output;
+use recorded_cases::compare::{Counts, Replay};
 use std::io;
 
-// What the library answers, behind the five numbers of a row.
-fn put_answer(out: &mut [u8], k: usize, number: u8, left: Gwei, epoch: Epoch)
-    requires { k ≤ 2 ^ 40 }
-{
-    put_word(out, k, number as u32);
-    put_number(out, k + 1, left.0);
-    put_number(out, k + 3, epoch.0);
-}
-
-// n numbers, as they are in the row.
-fn copy(rows: &[u8], k: usize, n: usize, out: &mut [u8])
-    requires k_bound { k ≤ 2 ^ 38 }
-    requires n_bound { n ≤ 2 ^ 38 }
-{
-    let mut i: usize = 0;
-    while i < n {
-        put_number(out, k + i * 2, number(rows, k + i * 2));
-        i += 1;
+// The five numbers of a row.
+fn numbers(row: &[u8; 60]) -> [u64; 5] {
+    let mut numbers = [0; 5];
+    let (eights, _) = row.as_chunks::<8>();
+    for (number, bytes) in numbers.iter_mut().zip(eights) {
+        *number = u64::from_le_bytes(*bytes);
     }
+    numbers
 }
 
-// The row at word k, with the answer that the library gives.
-fn assign(rows: &[u8], k: usize, out: &mut [u8])
-    requires { k ≤ 2 ^ 38 }
-{
-    let a = assignment::epoch_assignment(
-        Gwei(number(rows, k)),
-        Epoch(number(rows, k + 2)),
-        Epoch(number(rows, k + 4)),
-        Gwei(number(rows, k + 6)),
-        Gwei(number(rows, k + 8)),
+// The last twenty bytes of a row.
+fn answer(number: u8, left: Gwei, epoch: Epoch) -> [u8; 20] {
+    let mut answer = [0; 20];
+    answer[..4].copy_from_slice(&u32::from(number).to_le_bytes());
+    answer[4..12].copy_from_slice(&left.0.to_le_bytes());
+    answer[12..].copy_from_slice(&epoch.0.to_le_bytes());
+    answer
+}
+
+// The row with the answer that the library gives.
+fn answered(row: &[u8; 60]) -> [u8; 60] {
+    let [left, earliest, activation_exit, churn, amount] = numbers(row);
+    let assigned = assignment::epoch_assignment(
+        Gwei(left),
+        Epoch(earliest),
+        Epoch(activation_exit),
+        Gwei(churn),
+        Gwei(amount),
     );
-    let given = a.assigned();
-    copy(rows, k, 5, out);
-    put_answer(out, k + 10, a.number(), given.left, given.epoch);
+    let number = answer_number(&assigned);
+    let given = assigned.unwrap_or(Assignment {
+        left: Gwei(0),
+        epoch: Epoch(0),
+    });
+    let mut answered = *row;
+    answered[40..].copy_from_slice(&answer(number, given.left, given.epoch));
+    answered
 }
 
-fn assign_all(rows: &[u8], n: usize, out: &mut [u8])
-    requires { n ≤ 2 ^ 32 }
-{
-    let mut i: usize = 0;
-    while i < n {
-        assign(rows, i * 15, out);
-        i += 1;
+pub fn replay<P: Print>(
+    replay: &mut Replay<P>,
+    recorded: &[u8],
+    out: &mut Output,
+) -> io::Result<()> {
+    let (rows, _) = recorded.as_chunks::<60>();
+    let (places, _) = out.as_chunks_mut::<60>();
+    for (place, row) in places.iter_mut().zip(rows) {
+        *place = answered(row);
     }
-}
-
-pub fn replay(
-    to: &impl Print,
-    replay: Replay,
-    rows: &[u8],
-    out: &mut [u8; 319991],
-) -> io::Result<Replay> {
-    let n = rows.len() / 60 % 5333;
-    assign_all(rows, n, out);
-    let r = check_first(to, replay, b"assignments", rows, out, n * 60)?;
-    Ok(r.counted(Counts {
+    let n = rows.len().min(5332);
+    replay.check("assignments", recorded, &out[..n * 60])?;
+    replay.count(Counts {
         assignments: n as u64,
-        ..Counts::none()
-    }))
+        ..Counts::default()
+    });
+    Ok(())
 }

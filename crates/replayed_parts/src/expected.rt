@@ -1,72 +1,41 @@
 // The list of withdrawals that is expected: a count, then sixteen records of 44 bytes.
-ghost use Rattle.std.specs.Prelude.{◌≤◌, ◌^◌};
-
-use expected_withdrawals::Withdrawal;
-use primitives::{Scalars, Settings};
-use recorded_cases::compare::{Replay, check_first};
-use recorded_cases::container;
-use recorded_cases::words::{put_byte, put_number, put_word};
+use expected_withdrawals::{ExpectedWithdrawals, Withdrawal};
+use recorded_cases::books::Books;
+use recorded_cases::compare::Replay;
+use recorded_cases::container::{Case, Section};
 use std::io;
 
-fn put_address(out: &mut [u8], at: usize, address: [u8; 20])
-    requires { at ≤ 2 ^ 40 }
-{
-    let mut j: usize = 0;
-    while j < 20 {
-        put_byte(out, at + j, address[j]);
-        j += 1;
-    }
+fn record(w: &Withdrawal) -> [u8; 44] {
+    let mut record = [0; 44];
+    record[..8].copy_from_slice(&w.index.0.to_le_bytes());
+    record[8..16].copy_from_slice(&(w.validator_index.0 as u64).to_le_bytes());
+    record[16..36].copy_from_slice(&w.address);
+    record[36..].copy_from_slice(&w.amount.0.to_le_bytes());
+    record
 }
 
-// From word k on.
-fn put_withdrawal(out: &mut [u8], k: usize, w: Withdrawal)
-    requires { k ≤ 2 ^ 32 }
-{
-    let address = w.address;
-    put_number(out, k, w.index.0);
-    put_number(out, k + 2, w.validator_index.0 as u64);
-    put_address(out, (k + 4) * 4, address);
-    put_number(out, k + 9, w.amount.0);
+// Records past the count are zeros where a list was recorded, and blank in what the library answers.
+fn list(listed: &ExpectedWithdrawals) -> [u8; 708] {
+    let mut out = [0; 708];
+    out[..4].copy_from_slice(&((listed.count % 65536) as u32).to_le_bytes());
+    let (places, _) = out[4..].as_chunks_mut::<44>();
+    for (place, w) in places.iter_mut().zip(&listed.list) {
+        *place = record(w);
+    }
+    out
 }
 
-fn put_list(out: &mut [u8], list: [Withdrawal; 16]) {
-    let mut i: usize = 0;
-    while i < 16 {
-        put_withdrawal(out, 1 + i * 11, list[i]);
-        i += 1;
-    }
+fn expected(books: &Books) -> ExpectedWithdrawals {
+    operations::expected::get_expected_withdrawals(books.settings, &books.see()).unwrap_or(
+        ExpectedWithdrawals::none(),
+    )
 }
 
-// Where a list was recorded. Records past the count are zeros there, and blank in what the library answers.
-pub fn check_list(
-    to: &impl Print,
-    replay: Replay,
-    settings: Settings,
-    scalars: Scalars,
-    identities: &[u8],
-    validators: &[u64],
-    deposits: &[u64],
-    partials: &[u64],
-    consolidations: &[u64],
-    sections: &[u8],
-    out: &mut [u8; 319991],
-) -> io::Result<Replay> {
-    let recorded = container::payload(sections, container::EXPECTED);
-    if recorded.len() == 0 {
-        return Ok(replay);
+// Where a list was recorded.
+pub fn check_list<P: Print>(replay: &mut Replay<P>, case: &Case, books: &Books) -> io::Result<()> {
+    let recorded = case.payload(Section::Expected);
+    if recorded.is_empty() {
+        return Ok(());
     }
-    let e = operations::expected::get_expected_withdrawals(
-        settings,
-        scalars,
-        identities,
-        validators,
-        deposits,
-        partials,
-        consolidations,
-    );
-    let listed = e.withdrawals;
-    let list = listed.list;
-    put_word(out, 0, (listed.count % 65536) as u32);
-    put_list(out, list);
-    check_first(to, replay, b"list expected", recorded, out, 708)
+    replay.check("list expected", recorded, &list(&expected(books)))
 }

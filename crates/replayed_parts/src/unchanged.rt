@@ -1,142 +1,60 @@
 // Books that every call refuses: they are what was recorded, and past them the tables hold what they held.
-use primitives::{Scalars, Settings};
-use recorded_cases::compare::{Replay, begins_with, check, check_firsts};
-use recorded_cases::{buffers, container, laid};
+use primitives::Scalars;
+use recorded_cases::books::{Books, Tables};
+use recorded_cases::compare::Replay;
+use recorded_cases::container::{Case, Section};
+use recorded_cases::laid;
 use std::io;
 
-fn check_same(to: &impl Print, replay: Replay, what: &[u8], same: bool) -> io::Result<Replay> {
-    if same {
-        return check(to, replay, what, b"unchanged\n", b"unchanged\n");
-    }
-    check(to, replay, what, b"unchanged\n", b"changed\n")
+fn check_same<P: Print>(replay: &mut Replay<P>, what: &str, same: bool) -> io::Result<()> {
+    let found: &[u8] = if same { b"unchanged\n" } else { b"changed\n" };
+    replay.check(what, b"unchanged\n", found)
 }
 
-fn same_counts(before: Scalars, after: Scalars) -> bool {
-    (before.validators == after.validators)
-        & (before.deposits == after.deposits)
-        & (before.partials == after.partials)
-        & (before.consolidations == after.consolidations)
+fn counts(scalars: Scalars) -> [usize; 4] {
+    [
+        scalars.validators,
+        scalars.deposits,
+        scalars.partials,
+        scalars.consolidations,
+    ]
 }
 
 // The settings and the scalars stand in the first 85 words of a file.
-fn check_front(
-    to: &impl Print,
-    replay: Replay,
-    settings: Settings,
-    scalars: Scalars,
-    recorded: &[u8],
-    out: &mut [u8; 319991],
-) -> io::Result<Replay> {
-    books_writer::front::put_front(out, settings, scalars);
-    check_firsts(to, replay, b"settings and scalars", recorded, out, 340)
+fn check_front<P: Print>(replay: &mut Replay<P>, books: &Books, recorded: &[u8]) -> io::Result<()> {
+    let mut front = [0; 340];
+    books_writer::front::put_front(&mut front, books.settings, books.scalars);
+    let recorded = recorded.get(..340).unwrap_or(recorded);
+    replay.check("settings and scalars", recorded, &front)
 }
 
-// The tables, against others.
-fn check_tables(
-    to: &impl Print,
-    replay: Replay,
-    wanted_identities: &[u8],
-    wanted_validators: &[u64],
-    wanted_deposits: &[u64],
-    wanted_partials: &[u64],
-    wanted_consolidations: &[u64],
-    identities: &[u8],
-    validators: &[u64],
-    deposits: &[u64],
-    partials: &[u64],
-    consolidations: &[u64],
-) -> io::Result<Replay> {
-    let n = identities.len();
-    let mut r = check_firsts(to, replay, b"identities", wanted_identities, identities, n)?;
-    let same_validators = begins_with(wanted_validators, validators);
-    r = check_same(to, r, b"validators", same_validators)?;
-    let same_deposits = begins_with(wanted_deposits, deposits);
-    r = check_same(to, r, b"deposits", same_deposits)?;
-    let same_partials = begins_with(wanted_partials, partials);
-    r = check_same(to, r, b"partials", same_partials)?;
-    let same_consolidations = begins_with(wanted_consolidations, consolidations);
-    check_same(to, r, b"consolidations", same_consolidations)
-}
-
-// The tables, against those that the recorded books are laid into: the registry's are as long as the lent ones, since
-// their columns depend on the length.
-fn check_laid(
-    to: &impl Print,
-    replay: Replay,
-    recorded: &[u8],
-    wanted_identities: &mut [u8],
-    wanted_validators: &mut [u64],
-    wanted_deposits: &mut [u64; 1024],
-    wanted_partials: &mut [u64; 1536],
-    wanted_consolidations: &mut [u64; 1024],
-    scalars: Scalars,
-    identities: &[u8],
-    validators: &[u64],
-    deposits: &[u64],
-    partials: &[u64],
-    consolidations: &[u64],
-) -> io::Result<Replay> {
-    let before = laid::lay(
-        recorded,
-        wanted_identities,
-        wanted_validators,
-        wanted_deposits,
-        wanted_partials,
-        wanted_consolidations,
-    );
-    let r = check_tables(
-        to,
+// The tables, against those that the recorded books are laid into.
+fn check_tables<P: Print>(replay: &mut Replay<P>, wanted: &Books, books: &Books) -> io::Result<()> {
+    let laid = wanted.see();
+    let found = books.see();
+    replay.check("identities", laid.identities, found.identities)?;
+    check_same(replay, "validators", laid.validators == found.validators)?;
+    check_same(replay, "deposits", laid.deposits == found.deposits)?;
+    check_same(replay, "partials", laid.partials == found.partials)?;
+    check_same(
         replay,
-        wanted_identities,
-        wanted_validators,
-        wanted_deposits,
-        wanted_partials,
-        wanted_consolidations,
-        identities,
-        validators,
-        deposits,
-        partials,
-        consolidations,
+        "consolidations",
+        laid.consolidations == found.consolidations,
     )?;
-    check_same(to, r, b"counts", same_counts(before, scalars))
+    check_same(
+        replay,
+        "counts",
+        counts(wanted.scalars) == counts(books.scalars),
+    )
 }
 
-pub fn check_unchanged(
-    to: &impl Print,
-    replay: Replay,
-    settings: Settings,
-    scalars: Scalars,
-    identities: &[u8],
-    validators: &[u64],
-    deposits: &[u64],
-    partials: &[u64],
-    consolidations: &[u64],
-    sections: &[u8],
-    out: &mut [u8; 319991],
-) -> io::Result<Replay> {
-    let recorded = container::payload(sections, container::CLOSING);
-    let mut is = buffers::identities();
-    let mut vs = buffers::validators();
-    let mut ds = buffers::deposits();
-    let mut ps = buffers::partials();
-    let mut cs = buffers::consolidations();
-    let bytes = identities.len() % 40961;
-    let words = validators.len() % 3585;
-    let tables = check_laid(
-        to,
-        replay,
-        recorded,
-        &mut is[..bytes],
-        &mut vs[..words],
-        &mut ds,
-        &mut ps,
-        &mut cs,
-        scalars,
-        identities,
-        validators,
-        deposits,
-        partials,
-        consolidations,
-    )?;
-    check_front(to, tables, settings, scalars, recorded, out)
+pub fn check_unchanged<P: Print>(
+    replay: &mut Replay<P>,
+    case: &Case,
+    books: &Books,
+) -> io::Result<()> {
+    let recorded = case.payload(Section::Closing);
+    let wanted = laid::lay(recorded, Tables::new(books.tables.room()));
+    check_tables(replay, &wanted, books)?;
+    check_front(replay, books, recorded)
 }

@@ -8,6 +8,7 @@ ghost use Rattle.rules.specs.BlockProcessing.{request_partial_withdrawal};
 ghost use Rattle.rules.specs.Acceptance.{sound_settings, partial_amounts};
 ghost use Rattle.rules.specs.Calls.{handed_refusal, withdrawal_request};
 ghost use Rattle.rule_laws.specs.Accepted.{SoundBooks};
+ghost use Rattle.primitives.specs.Answers.{answer_number, answer_or};
 ghost use Rattle.primitives.specs.Settings.{settings_of};
 ghost use Rattle.records.specs.Layout.{validator_at, exit_epoch_at, partials_fit};
 ghost use Rattle.records.specs.Plain.{plain_validator};
@@ -17,10 +18,8 @@ ghost use Rattle.call_answers.specs.Answers.{Judged};
 ghost use Rattle.request_operations.specs.Requests.{may_request, request_full_exit, queue_partial_withdrawal};
 ghost use Rattle.request_operations.specs.Requests.{has_excess, to_withdraw};
 
-use helpers::lookups::Found;
-use primitives::{
-    BOUND, Epoch, FAR_FUTURE_EPOCH, Gwei, Outcome, Scalars, Settings, ValidatorIndex, answers,
-};
+use primitives::answers::Refusal;
+use primitives::{BOUND, Epoch, FAR_FUTURE_EPOCH, Gwei, Scalars, Settings, ValidatorIndex};
 use records::queues::PendingPartialWithdrawal;
 use records::validator::Validator;
 
@@ -31,7 +30,7 @@ fn queue_is_full(settings: Settings, scalars: Scalars, amount: Gwei) -> bool
     ensures { result
         ≡ (eqb scalars.partials settings.pending_partial_withdrawals_limit && not (eqb amount.0 0)) }
 {
-    (scalars.partials == settings.pending_partial_withdrawals_limit) & (amount.0 != 0)
+    scalars.partials == settings.pending_partial_withdrawals_limit && amount != Gwei(0)
 }
 
 // Whether a validator with this address may request a withdrawal.
@@ -49,7 +48,7 @@ fn may_request(
         return false;
     }
     let address = v.withdrawal_address();
-    if !records::bytes::same_address(address, source_address) {
+    if address != source_address {
         return false;
     }
     if !v.is_active_validator(current_epoch) {
@@ -62,14 +61,16 @@ fn may_request(
 }
 
 // Whether a compounding validator has a balance above the minimum and what its waiting withdrawals owe it.
+#[tactic(auto, unfolding(crate::specs::Requests::has_excess))]
 fn has_excess(settings: Settings, v: Validator, pending: Gwei) -> bool
     requires settings_are_sound { sound_settings (settings_of settings) ≡ true }
     requires pending_bound { pending.0 ≤ rule.BOUND }
     ensures { result ≡ has_excess (settings_of settings) (plain_validator v) pending.0 }
 {
     let least = settings.min_activation_balance;
-    let compounding = v.has_compounding_withdrawal_credential();
-    compounding & (least.0 <= v.effective_balance.0) & (least.0 + pending.0 < v.balance.0)
+    v.has_compounding_withdrawal_credential()
+        && least <= v.effective_balance
+        && least.0 + pending.0 < v.balance.0
 }
 
 // ---- a partial withdrawal
@@ -80,28 +81,23 @@ fn partial_amounts(scalars: Scalars, partials: &[u64]) -> Gwei
     ensures { (ids vs ds cs : List ℕ)
         → result.0 ≡ partial_amounts (books_of scalars (tables ids vs ds partials.now cs)) }
 {
-    let n = scalars.partials;
-    let mut sum: u64 = 0;
-    let mut k = 0;
-    while k < n {
-        let p = records::queues::partial_at(partials, k);
-        sum = sum + p.amount.0;
-        k += 1;
+    let mut sum = 0;
+    for k in 0..scalars.partials {
+        sum += records::queues::entry_at::<PendingPartialWithdrawal>(partials, k)
+            .amount
+            .0;
     }
     Gwei(sum)
 }
 
 // What is withdrawn of a balance with an excess.
+#[tactic(auto, unfolding(crate::specs::Requests::to_withdraw))]
 fn to_withdraw(settings: Settings, v: Validator, pending: Gwei, amount: Gwei) -> Gwei
     requires { settings.min_activation_balance.0 + pending.0 < v.balance.0 }
     ensures { result.0 ≡ to_withdraw (settings_of settings) (plain_validator v) pending.0 amount.0 }
 {
     let excess = v.balance.0 - settings.min_activation_balance.0 - pending.0;
-    if excess < amount.0 {
-        Gwei(excess)
-    } else {
-        amount
-    }
+    amount.min(Gwei(excess))
 }
 
 // The queue's new entry, unless the result is too large: its sum is judged before its epochs.
@@ -112,7 +108,7 @@ fn queue_partial_withdrawal(
     partials: &mut [u64],
     i: ValidatorIndex,
     amount: Gwei,
-) -> Outcome
+) -> Result<Scalars, Refusal>
     requires settings_are_sound { sound_settings (settings_of settings) ≡ true }
     requires registry { Registry scalars validators.now }
     requires accounts { Accounts scalars }
@@ -124,7 +120,7 @@ fn queue_partial_withdrawal(
         → Judged (settings_of settings) (queue_partial_withdrawal (settings_of settings) i.0 amount.0) scalars
         (tables ids validators.now ds partials.old cs)
         (tables ids validators.now ds partials.new cs)
-        result.number result.scalars }
+        (answer_number result) (answer_or scalars result) }
 {
     let n = scalars.partials;
     let sum = partial_amounts(scalars, partials);
@@ -132,26 +128,16 @@ fn queue_partial_withdrawal(
         settings, scalars, validators, amount,
     );
     let withdrawable = helpers::exits::withdrawable_epoch(settings, a);
-    let number = call_answers::size_number(
-        true,
-        sum.0 <= BOUND - amount.0,
-        withdrawable.0 <= BOUND,
-    );
-    if number != answers::DONE {
-        return Outcome { number, scalars };
-    }
+    call_answers::size_number(true, sum.0 <= BOUND - amount.0, withdrawable.0 <= BOUND)?;
     let entry = PendingPartialWithdrawal {
         index: i,
         amount,
         withdrawable_epoch: withdrawable,
     };
-    records::queues::push_partial(partials, n, entry);
+    records::queues::push(partials, n, entry);
     let charged = scalars.with_exit_churn(a.left, a.epoch);
     let queued = charged.with_partials(n + 1);
-    Outcome {
-        number: answers::DONE,
-        scalars: queued,
-    }
+    Ok(queued)
 }
 
 fn request_partial_withdrawal(
@@ -162,7 +148,7 @@ fn request_partial_withdrawal(
     i: ValidatorIndex,
     v: Validator,
     amount: Gwei,
-) -> Outcome
+) -> Result<Scalars, Refusal>
     requires settings_are_sound { sound_settings (settings_of settings) ≡ true }
     requires registry { Registry scalars validators.now }
     requires accounts { Accounts scalars }
@@ -177,14 +163,11 @@ fn request_partial_withdrawal(
         → Judged (settings_of settings) (request_partial_withdrawal (settings_of settings) i.0 amount.0) scalars
         (tables ids validators.now ds partials.old cs)
         (tables ids validators.now ds partials.new cs)
-        result.number result.scalars }
+        (answer_number result) (answer_or scalars result) }
 {
     let pending = helpers::lookups::get_pending_balance_to_withdraw(scalars, partials, i);
     if !has_excess(settings, v, pending) {
-        return Outcome {
-            number: answers::DONE,
-            scalars,
-        };
+        return Ok(scalars);
     }
     let withdrawn = to_withdraw(settings, v, pending, amount);
     queue_partial_withdrawal(settings, scalars, validators, partials, i, withdrawn)
@@ -199,7 +182,7 @@ fn request_full_exit(
     validators: &mut [u64],
     partials: &[u64],
     i: ValidatorIndex,
-) -> Outcome
+) -> Result<Scalars, Refusal>
     requires settings_are_sound { sound_settings (settings_of settings) ≡ true }
     requires registry { Registry scalars validators.old }
     requires accounts { Accounts scalars }
@@ -211,14 +194,11 @@ fn request_full_exit(
         → Judged (settings_of settings) (request_full_exit (settings_of settings) i.0) scalars
         (tables ids validators.old ds partials.now cs)
         (tables ids validators.new ds partials.now cs)
-        result.number result.scalars }
+        (answer_number result) (answer_or scalars result) }
 {
     let pending = helpers::lookups::get_pending_balance_to_withdraw(scalars, partials, i);
     if pending.0 != 0 {
-        return Outcome {
-            number: answers::DONE,
-            scalars,
-        };
+        return Ok(scalars);
     }
     exit_operations::exit_within_bound(settings, scalars, validators, i)
 }
@@ -236,7 +216,7 @@ pub fn process_execution_layer_withdrawal_request(
     source_address: [u8; 20],
     public_key: [u8; 48],
     amount: Gwei,
-) -> Outcome
+) -> Result<Scalars, Refusal>
     requires { handed_refusal (settings_of settings)
         (books_of scalars
         (tables identities.now validators.old deposits.now partials.old consolidations.now))
@@ -247,27 +227,18 @@ pub fn process_execution_layer_withdrawal_request(
         partials.old consolidations.now)
         (tables identities.now validators.new deposits.now
         partials.new consolidations.now)
-        result.number result.scalars }
+        (answer_number result) (answer_or scalars result) }
 {
     if queue_is_full(settings, scalars, amount) {
-        return Outcome {
-            number: answers::DONE,
-            scalars,
-        };
+        return Ok(scalars);
     }
     let found = helpers::lookups::position(scalars, identities, public_key);
-    let Found::At(i) = found else {
-        return Outcome {
-            number: answers::DONE,
-            scalars,
-        };
+    let Some(i) = found else {
+        return Ok(scalars);
     };
     let v = records::registry::validator_at(identities, validators, i);
     if !may_request(settings, scalars.epoch, v, source_address) {
-        return Outcome {
-            number: answers::DONE,
-            scalars,
-        };
+        return Ok(scalars);
     }
     if amount.0 == 0 {
         return request_full_exit(settings, scalars, validators, partials, i);

@@ -1,10 +1,12 @@
 // A penalty takes from a balance, which stops at 0.
 ghost use Rattle.std.specs.Prelude.{◌≡◌};
 ghost use Rattle.rules.specs.Calls.{handed_refusal, penalty};
+ghost use Rattle.primitives.specs.Answers.{answer_number, answer_or};
 ghost use Rattle.primitives.specs.Settings.{settings_of};
 ghost use Rattle.records.specs.Books.{tables, books_of, room_of, Called};
 
-use primitives::{Gwei, Outcome, Scalars, Settings, ValidatorIndex, answers};
+use primitives::answers::Refusal;
+use primitives::{Gwei, Scalars, Settings, ValidatorIndex};
 
 pub fn penalty_accepted(
     settings: Settings,
@@ -16,7 +18,7 @@ pub fn penalty_accepted(
     consolidations: &[u64],
     i: ValidatorIndex,
     amount: Gwei,
-) -> Outcome
+) -> Result<Scalars, Refusal>
     requires { handed_refusal (settings_of settings)
         (books_of scalars
         (tables identities.now validators.old deposits.now partials.now consolidations.now))
@@ -26,17 +28,11 @@ pub fn penalty_accepted(
         (tables identities.now validators.old deposits.now
         partials.now consolidations.now)
         (tables identities.now validators.new deposits.now
-        partials.now consolidations.now) result.number result.scalars }
+        partials.now consolidations.now) (answer_number result) (answer_or scalars result) }
 {
     if scalars.validators <= i.0 {
-        return Outcome {
-            number: answers::NO_SUCH_VALIDATOR,
-            scalars,
-        };
+        return Err(Refusal::NoSuchValidator);
     }
     records::registry::decrease_balance(validators, i, amount);
-    Outcome {
-        number: answers::DONE,
-        scalars,
-    }
+    Ok(scalars)
 }

@@ -3,10 +3,12 @@ ghost use Rattle.std.specs.Prelude.{◌≡◌, ◌+◌, leb};
 ghost use Rattle.rules.specs.Types as rule;
 ghost use Rattle.rules.specs.Acceptance.{held};
 ghost use Rattle.rules.specs.Calls.{handed_refusal, reward};
+ghost use Rattle.primitives.specs.Answers.{answer_number, answer_or};
 ghost use Rattle.primitives.specs.Settings.{settings_of};
 ghost use Rattle.records.specs.Books.{tables, books_of, room_of, Called};
 
-use primitives::{Gwei, Outcome, Scalars, Settings, ValidatorIndex, answers};
+use primitives::answers::Refusal;
+use primitives::{Gwei, Scalars, Settings, ValidatorIndex};
 
 // On books that the tests accepted. `sums` says whether the result's sums are within the bound.
 pub fn reward_accepted(
@@ -20,7 +22,7 @@ pub fn reward_accepted(
     i: ValidatorIndex,
     amount: Gwei,
     sums: bool,
-) -> Outcome
+) -> Result<Scalars, Refusal>
     requires accepted { handed_refusal (settings_of settings)
         (books_of scalars
         (tables identities.now validators.old deposits.now partials.now consolidations.now))
@@ -34,23 +36,14 @@ pub fn reward_accepted(
         (tables identities.now validators.old deposits.now
         partials.now consolidations.now)
         (tables identities.now validators.new deposits.now
-        partials.now consolidations.now) result.number result.scalars }
+        partials.now consolidations.now) (answer_number result) (answer_or scalars result) }
 {
     if scalars.validators <= i.0 {
-        return Outcome {
-            number: answers::NO_SUCH_VALIDATOR,
-            scalars,
-        };
+        return Err(Refusal::NoSuchValidator);
     }
     if !sums {
-        return Outcome {
-            number: answers::RESULT_SUMS_OVER_BOUND,
-            scalars,
-        };
+        return Err(Refusal::ResultSumsOverBound);
     }
     records::registry::increase_balance(validators, i, amount);
-    Outcome {
-        number: answers::DONE,
-        scalars,
-    }
+    Ok(scalars)
 }

@@ -5,7 +5,8 @@
 pub mod lines; // one call with its line in the results
 pub mod sums; // the sum that the books hold, carried from call to call
 
-ghost use Rattle.std.specs.Prelude.{◌≡◌, ◌*◌, ◌≤◌, length};
+ghost use Rattle.std.specs.Prelude.{◌*◌, ◌≤◌, length, MatchResult};
+ghost use Rattle.primitives.specs.Answers.{refusal_number};
 ghost use Rattle.primitives.specs.Settings.{settings_of};
 ghost use Rattle.records.specs.Books.{tables};
 ghost use Rattle.file_calls.specs.Ready.{Accepted, Holds};
@@ -13,7 +14,9 @@ ghost use Rattle.runs.specs.Ready.{CallsAt, operations_at};
 ghost use Rattle.runs.specs.Promise.{Done, CarriedOut};
 ghost use Rattle.runs.specs.Judged.{Judged};
 
-use primitives::{Gwei, Scalars, Settings, answers};
+use primitives::answers::{self, Refusal};
+use primitives::{Gwei, Scalars, Settings};
+use records::books::Books;
 
 // What carrying out a calls file answers: the number of its cause, the scalars that it leaves, and how many calls were
 // carried out.
@@ -24,23 +27,11 @@ pub struct Carried {
     pub count: usize,
 }
 
-// What is known before the first call: the number of the refusal, or 0 with the sum that the books hold and how many
-// calls the file has.
+// What is known before the first call: the sum that the books hold, and how many calls the file has.
 #[derive(Clone, Copy)]
 struct Judgement {
-    number: u8,
     held: Gwei,
     count: usize,
-}
-
-fn refused(number: u8) -> Judgement
-    ensures { result.number ≡ number }
-{
-    Judgement {
-        number,
-        held: Gwei(0),
-        count: 0,
-    }
 }
 
 // The books first, then the file, then whether `space` numbers have room for its results.
@@ -54,37 +45,29 @@ fn judge(
     consolidations: &[u64],
     file: &[u8],
     space: usize,
-) -> Judgement
-    ensures { Judged (settings_of settings) scalars
+) -> Result<Judgement, Refusal>
+    ensures { let judged = Judged (settings_of settings) scalars
         (tables identities.now validators.now deposits.now
         partials.now consolidations.now)
-        file.now space result.number result.held.0 result.count }
+        file.now space in MatchResult result (λ j. judged 0 j.held.0 j.count) (λ e. judged (refusal_number e) 0 0) }
 {
-    let handed = acceptance::accept(
-        settings,
+    let books = Books {
         scalars,
         identities,
         validators,
         deposits,
         partials,
         consolidations,
-    );
-    if handed.number != answers::DONE {
-        return refused(handed.number);
-    }
+    };
+    let held = acceptance::accept(settings, &books)?;
     if !calls_reader::calls_file_ok(file) {
-        return refused(answers::BROKEN_FILE);
+        return Err(Refusal::BrokenFile);
     }
     let count = calls_reader::calls_count(file);
     if space / 3 < count {
-        return refused(answers::WRITER_BUFFER_SHORT);
+        return Err(Refusal::WriterBufferShort);
     }
-    let held = handed.held;
-    Judgement {
-        number: answers::DONE,
-        held,
-        count,
-    }
+    Ok(Judgement { held, count })
 }
 
 // The n calls of a file that was judged good, on books that hold `opening`.
@@ -117,8 +100,7 @@ fn carry_out_calls(
     let mut after = scalars;
     let mut sum = opening;
     let mut k: usize = 2;
-    let mut i: usize = 0;
-    while i < n {
+    for i in 0..n {
         let done = lines::carry_out_line(
             settings,
             after,
@@ -136,7 +118,6 @@ fn carry_out_calls(
         after = done.scalars;
         sum = done.sum;
         k = calls_reader::next_call(file, k);
-        i += 1;
     }
     after
 }
@@ -161,7 +142,7 @@ pub fn carry_out(
         partials.new consolidations.new)
         file.now results.old results.new result.number result.scalars result.count }
 {
-    let judged = judge(
+    let judged = match judge(
         settings,
         scalars,
         identities,
@@ -171,14 +152,16 @@ pub fn carry_out(
         consolidations,
         file,
         results.len(),
-    );
-    if judged.number != answers::DONE {
-        return Carried {
-            number: judged.number,
-            scalars,
-            count: 0,
-        };
-    }
+    ) {
+        Ok(judged) => judged,
+        Err(refusal) => {
+            return Carried {
+                number: refusal.number(),
+                scalars,
+                count: 0,
+            };
+        }
+    };
     let after = carry_out_calls(
         settings,
         scalars,

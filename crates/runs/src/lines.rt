@@ -6,6 +6,7 @@ ghost use Rattle.file_calls.specs.Ready.{Accepted, Holds, CallAt, operation_at};
 ghost use Rattle.runs.specs.Lines.{with_line};
 ghost use Rattle.runs.specs.Ready.{Written};
 
+use primitives::answers::answer_number;
 use primitives::{Gwei, Scalars, Settings};
 
 // The numbers of line i.
@@ -58,7 +59,7 @@ pub fn carry_out_line(
 {
     let code = calls_reader::code_at(file, k);
     let taken = crate::sums::penalty_taken(scalars, validators, file, k, code);
-    let outcome = file_calls::carry_out_call(
+    let answer = file_calls::carry_out_call(
         settings,
         scalars,
         identities,
@@ -70,20 +71,12 @@ pub fn carry_out_line(
         file,
         k,
     );
-    let after = outcome.scalars;
+    let number = answer_number(&answer);
+    let after = answer.unwrap_or(scalars);
     let total = crate::sums::held_after(
-        sum,
-        taken,
-        outcome.number,
-        scalars,
-        after,
-        validators,
-        deposits,
-        file,
-        k,
-        code,
+        sum, taken, number, scalars, after, validators, deposits, file, k, code,
     );
-    put_line(results, i, code as u64, outcome.number as u64, total);
+    put_line(results, i, code as u64, number as u64, total);
     LineDone {
         scalars: after,
         sum: total,

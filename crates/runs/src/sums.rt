@@ -29,7 +29,7 @@ pub fn penalty_taken(scalars: Scalars, validators: &[u64], file: &[u8], k: usize
         return Gwei(0);
     }
     let balance = records::registry::balance_at(validators, i);
-    primitives::min(call.amount, balance)
+    Gwei(call.amount.0.min(balance.0))
 }
 
 // The sum after the call at word k, which answered `number` and left the scalars `after`; `taken` is what a penalty

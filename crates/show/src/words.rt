@@ -3,71 +3,97 @@ use full_reads::read_full;
 use std::fs::File;
 use std::io;
 
-// A file, and what was read of it last.
+// Why the text ends early.
+#[derive(Debug, Drop)]
+pub enum Fault {
+    Broken,
+    Io(io::Error),
+}
+
+impl From<io::Error> for Fault {
+    fn from(e: io::Error) -> Fault {
+        Fault::Io(e)
+    }
+}
+
+// A file, what was read of it last, the place of the next word there and how many are there; and the sum of the words
+// that were taken.
 #[derive(Drop)]
-pub struct Input {
+pub struct Words {
     file: File,
     buf: [u8; 65536],
+    place: usize,
+    count: usize,
+    sum: u32,
 }
 
-impl Input {
-    pub fn new(file: File) -> Input {
-        Input {
+impl Words {
+    pub fn new(file: File) -> Words {
+        Words {
             file,
             buf: [0; 65536],
+            place: 0,
+            count: 0,
+            sum: 0,
         }
     }
-}
 
-// The word that was read last, the sum of those before it, the place of the next in the buffer and how many are there,
-// whether all was as it should be, and how much text waits to be written.
-#[derive(Clone, Copy)]
-pub struct Reading {
-    pub word: u32,
-    pub sum: u32,
-    pub place: usize,
-    pub words: usize,
-    pub good: bool,
-    pub at: usize,
-}
+    // Reads on; how many bytes there were.
+    fn read(&mut self) -> io::Result<usize> {
+        let got = read_full(&mut self.file, &mut self.buf)?;
+        self.place = 0;
+        self.count = got / 4;
+        Ok(got)
+    }
 
-impl Reading {
-    pub fn only_if(self, good: bool) -> Reading {
-        Reading {
-            good: self.good & good,
-            ..self
+    // Words that are cut short are broken.
+    fn fill(&mut self) -> Result<(), Fault> {
+        if self.read()? % 4 != 0 {
+            return Err(Fault::Broken);
+        }
+        Ok(())
+    }
+
+    pub fn next(&mut self) -> Result<u32, Fault> {
+        if self.count <= self.place {
+            self.fill()?;
+        }
+        if self.count <= self.place {
+            return Err(Fault::Broken);
+        }
+        let word = file_words::word_at(&self.buf, self.place);
+        self.place += 1;
+        self.sum = self.sum.wrapping_add(word);
+        Ok(word)
+    }
+
+    // What the next word holds beside its kind, where it is of this kind and that is below the limit.
+    pub fn payload(&mut self, kind: u32, limit: u32) -> Result<u32, Fault> {
+        let word = self.next()?;
+        if file_words::is_word(kind, limit, word) {
+            Ok(word % 0x1000_0000)
+        } else {
+            Err(Fault::Broken)
         }
     }
-}
 
-pub fn start() -> Reading {
-    Reading {
-        word: 0,
-        sum: 0,
-        place: 0,
-        words: 0,
-        good: true,
-        at: 0,
+    pub fn number(&mut self) -> Result<u64, Fault> {
+        let low = self.payload(3, 0x1000_0000)?;
+        let middle = self.payload(4, 0x1000_0000)?;
+        let top = self.payload(5, 256)?;
+        Ok(u64::from(top) << 56 | u64::from(middle) << 28 | u64::from(low))
     }
-}
 
-pub fn next(reading: Reading, input: &mut Input) -> io::Result<Reading> {
-    let sum = std::num::wrapping_add_u32(reading.sum, reading.word);
-    if reading.place < reading.words {
-        return Ok(Reading {
-            word: file_words::word_at(&input.buf, reading.place),
-            sum,
-            place: reading.place + 1,
-            ..reading
-        });
+    // The end word, and no word after it.
+    pub fn end(&mut self) -> Result<(), Fault> {
+        let sum = self.sum;
+        let last = self.payload(8, 0x1000_0000)?;
+        if self.count <= self.place {
+            self.read()?;
+        }
+        if last != sum % 0x1000_0000 || self.place < self.count {
+            return Err(Fault::Broken);
+        }
+        Ok(())
     }
-    let got = read_full(&mut input.file, &mut input.buf)?;
-    Ok(Reading {
-        word: file_words::word_at(&input.buf, 0),
-        sum,
-        place: 1,
-        words: got / 4,
-        good: reading.good & (0 < got) & (got % 4 == 0),
-        at: reading.at,
-    })
 }

@@ -1,6 +1,6 @@
 -- What an exported call promises: `Called` of the settings and scalars that its slices hold.
 use Rattle.std.specs.Prelude.{◌≡◌, refl, Bool, true, false, not, ◌&&◌, List, [], ◌∷◌, ℕ, suc, ◌≤◌, leb, eqb, length}
-use Rattle.std.specs.Prelude.{get_or, drop}
+use Rattle.std.specs.Prelude.{get_or, drop, Result}
 use Rattle.std.proofs.Common.{ap, ◌∙◌, arith, leb-true, eq-eqb, ne_eqb}
 use Rattle.std.proofs.Math.Path.{sym}
 use Rattle.std.proofs.lemmas.Bool.{false≢true, not-true}
@@ -12,6 +12,8 @@ use Rattle.rules.specs.Calls.{Operation, handed_refusal}
 use Rattle.primitives.specs.Settings.{settings_of}
 use Rattle.primitives.specs.declared.Settings.{Settings}
 use Rattle.primitives.specs.declared.Scalars.{Scalars}
+use Rattle.primitives.specs.declared.answers.Refusal.{Refusal}
+use Rattle.primitives.specs.Answers.{answer_number, answer_or}
 use Rattle.records.specs.Books.{Tables, Called, books_of, room_of}
 use Rattle.slices.specs.Numbers.{settings_in, scalars_in, with_scalars, past_stored, scalars_stored, stored_same}
 
@@ -102,6 +104,32 @@ module _ {xs : List ℕ} {op : Operation} {others : List Bool} {t : Tables} {s :
     where
       promised : Called (rules_in xs) op (scalars_in s) t u n after
       promised = rw (e, b) at k
+
+  -- the scalars of a call that is done are stored
+  pub exported_answered : {u : Tables} {r : List ℕ} {before : Scalars} (a : Result Scalars Refusal)
+      → settings ≡ settings_in xs → f ≡ fit s others → not f ≡ false → before ≡ scalars_in s
+      → Called (settings_of settings) op before t u (answer_number a) (answer_or before a)
+      → n ≡ answer_number a → r ≡ with_scalars s (answer_or (scalars_in s) a) → Exported xs op others t u s r n
+  exported_answered a e g z b k h w = exported_called e g z b (rw (← h) at k) (rw (← b) at w)
+
+-- by the frame of an exported call: where the slices fit, what the call answered and left; else nothing was called
+pub exported_framed : {xs : List ℕ} {op : Operation} {others : List Bool} {t u : Tables} {s r : List ℕ} {n : ℕ} {f : Bool}
+    → f ≡ fit s others
+    → (f ≡ true
+    → (a : Result Scalars Refusal)
+    × Called (rules_in xs) op (scalars_in s) t u (answer_number a) (answer_or (scalars_in s) a)
+    × (n ≡ answer_number a) × (r ≡ with_scalars s (answer_or (scalars_in s) a)))
+    → (f ≡ false → (n ≡ unfit_answer (rules_in xs)) × (r ≡ s) × (u ≡ t))
+    → Exported xs op others t u s r n
+exported_framed {xs} {op} {others} {t} {u} {s} {r} {n} {f} e done kept = go f refl
+  where
+    go : (g : Bool) → f ≡ g → Exported xs op others t u s r n
+    go true h =
+        let q = done h in
+        exported_answered {settings = settings_in xs} q.0 refl e (ap not h) refl q.1 q.2 q.3
+    go false h =
+        let q = kept h in
+        rw (q.1, q.2) (exported_unfit {settings = settings_in xs} refl e (ap not h) q.0)
 
 -- calls that alter no books
 module _ (xs : List ℕ) (others : List Bool) (t : Tables) (s : List ℕ) {n : ℕ} {f : Bool} {settings : Settings} where

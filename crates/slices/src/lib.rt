@@ -5,14 +5,19 @@
 pub mod bytes; // keys, credentials, addresses
 pub mod withdrawals; // lists of withdrawals
 
-ghost use Rattle.std.specs.Prelude.{◌≡◌, [], ◌≤◌, length, get_or};
+ghost use Rattle.std.specs.Prelude.{IsTrue, IsFalse, Result, ◌≡◌, [], ◌∷◌, ◌+◌, ◌^◌, ◌<◌, ◌≤◌, length, get_or};
 ghost use Rattle.tables.specs.Rows.{rows};
+ghost use Rattle.primitives.specs.declared.Scalars.{Scalars};
+ghost use Rattle.primitives.specs.declared.answers.Refusal.{Refusal};
+ghost use Rattle.primitives.specs.Answers.{answer_number, answer_or};
 ghost use Rattle.primitives.specs.Settings.{settings_of};
-ghost use Rattle.slices.specs.Numbers.{settings_in, setting_numbers, with_settings};
-ghost use Rattle.slices.specs.Numbers.{scalars_in, scalar_numbers, with_scalars};
+ghost use Rattle.slices.specs.Numbers.{settings_in, with_settings};
+ghost use Rattle.slices.specs.Numbers.{scalars_in, with_scalars};
 ghost use Rattle.slices.specs.Exported.{fit, unfit_answer};
 
-use primitives::{Epoch, Gwei, Scalars, Settings, ValidatorIndex, WithdrawalIndex, answers};
+use primitives::answers::{self, Refusal};
+use primitives::{Scalars, Settings};
+use std::array;
 
 // How many numbers settings are.
 pub const SETTINGS: usize = 19;
@@ -20,146 +25,55 @@ pub const SETTINGS: usize = 19;
 // How many numbers scalars are, the four counts among them.
 pub const SCALARS: usize = 13;
 
-// The number at place k; 0 where there is none.
-fn number_at(numbers: &[u64], k: usize) -> u64
-    ensures { result ≡ get_or numbers.now k 0 }
+// N items from place `at` on; `missing` stands for those past the end.
+fn row_at<T: Copy + Drop, const N: usize>(items: &[T], at: usize, missing: T) -> [T; N]
+    requires { at + N < 2 ^ 64 }
+    ensures { result ≡ rows N (λ k. get_or items.now (at + k) missing) }
 {
-    if k < numbers.len() { numbers[k] } else { 0 }
-}
-
-// The first nineteen numbers.
-fn nineteen(numbers: &[u64]) -> [u64; 19]
-    ensures { result ≡ rows 19 (λ k. get_or numbers.now k 0) }
-{
-    let mut out = [0u64; 19];
-    let mut j = 0;
-    while j < 19 {
-        out[j] = number_at(numbers, j);
-        j += 1;
-    }
-    out
-}
-
-fn settings_of(row: [u64; 19]) -> Settings
-    ensures { result ≡ settings_in row }
-{
-    Settings {
-        min_activation_balance: Gwei(row[0]),
-        max_effective_balance_electra: Gwei(row[1]),
-        effective_balance_increment: Gwei(row[2]),
-        min_per_epoch_churn_limit_electra: Gwei(row[3]),
-        max_per_epoch_activation_exit_churn_limit: Gwei(row[4]),
-        churn_limit_quotient: row[5],
-        shard_committee_period: row[6],
-        min_validator_withdrawability_delay: row[7],
-        max_seed_lookahead: row[8],
-        hysteresis_quotient: row[9],
-        hysteresis_downward_multiplier: row[10],
-        hysteresis_upward_multiplier: row[11],
-        max_pending_partials_per_withdrawals_sweep: row[12] as usize,
-        max_withdrawals_per_payload: row[13] as usize,
-        max_validators_per_withdrawals_sweep: row[14] as usize,
-        validator_registry_limit: row[15] as usize,
-        pending_balance_deposits_limit: row[16] as usize,
-        pending_partial_withdrawals_limit: row[17] as usize,
-        pending_consolidations_limit: row[18] as usize,
-    }
+    array::from_fn(|k| items.get(at + k).copied().unwrap_or(missing))
 }
 
 pub fn settings_from(settings: &[u64]) -> Settings
     ensures { result ≡ settings_in settings.now }
 {
-    settings_of(nineteen(settings))
-}
-
-fn setting_numbers(s: Settings) -> [u64; 19]
-    ensures { result ≡ setting_numbers s }
-{
-    [
-        s.min_activation_balance.0,
-        s.max_effective_balance_electra.0,
-        s.effective_balance_increment.0,
-        s.min_per_epoch_churn_limit_electra.0,
-        s.max_per_epoch_activation_exit_churn_limit.0,
-        s.churn_limit_quotient,
-        s.shard_committee_period,
-        s.min_validator_withdrawability_delay,
-        s.max_seed_lookahead,
-        s.hysteresis_quotient,
-        s.hysteresis_downward_multiplier,
-        s.hysteresis_upward_multiplier,
-        s.max_pending_partials_per_withdrawals_sweep as u64,
-        s.max_withdrawals_per_payload as u64,
-        s.max_validators_per_withdrawals_sweep as u64,
-        s.validator_registry_limit as u64,
-        s.pending_balance_deposits_limit as u64,
-        s.pending_partial_withdrawals_limit as u64,
-        s.pending_consolidations_limit as u64,
-    ]
+    Settings::from(row_at::<u64, SETTINGS>(settings, 0, 0))
 }
 
 pub fn store_settings(settings: &mut [u64], s: Settings)
     requires { 19 ≤ length settings.old }
     ensures { settings.new ≡ with_settings settings.old s }
 {
-    let numbers = setting_numbers(s);
-    let mut j = 0;
-    while j < 19 {
-        settings[j] = numbers[j];
-        j += 1;
-    }
+    let numbers: [u64; SETTINGS] = s.into();
+    settings[..SETTINGS].copy_from_slice(&numbers);
 }
 
 pub fn scalars_from(scalars: &[u64]) -> Scalars
     requires { 13 ≤ length scalars.now }
     ensures { result ≡ scalars_in scalars.now }
 {
-    Scalars {
-        epoch: Epoch(scalars[0]),
-        next_withdrawal_index: WithdrawalIndex(scalars[1]),
-        next_withdrawal_validator_index: ValidatorIndex(scalars[2] as usize),
-        deposit_receipts_start_index: scalars[3],
-        deposit_balance_to_consume: Gwei(scalars[4]),
-        exit_balance_to_consume: Gwei(scalars[5]),
-        earliest_exit_epoch: Epoch(scalars[6]),
-        consolidation_balance_to_consume: Gwei(scalars[7]),
-        earliest_consolidation_epoch: Epoch(scalars[8]),
-        validators: scalars[9] as usize,
-        deposits: scalars[10] as usize,
-        partials: scalars[11] as usize,
-        consolidations: scalars[12] as usize,
-    }
-}
-
-fn scalar_numbers(s: Scalars) -> [u64; 13]
-    ensures { result ≡ scalar_numbers s }
-{
-    [
-        s.epoch.0,
-        s.next_withdrawal_index.0,
-        s.next_withdrawal_validator_index.0 as u64,
-        s.deposit_receipts_start_index,
-        s.deposit_balance_to_consume.0,
-        s.exit_balance_to_consume.0,
-        s.earliest_exit_epoch.0,
-        s.consolidation_balance_to_consume.0,
-        s.earliest_consolidation_epoch.0,
-        s.validators as u64,
-        s.deposits as u64,
-        s.partials as u64,
-        s.consolidations as u64,
-    ]
+    Scalars::from(row_at::<u64, SCALARS>(scalars, 0, 0))
 }
 
 pub fn store_scalars(scalars: &mut [u64], s: Scalars)
     requires { 13 ≤ length scalars.old }
     ensures { scalars.new ≡ with_scalars scalars.old s }
 {
-    let numbers = scalar_numbers(s);
-    let mut j = 0;
-    while j < 13 {
-        scalars[j] = numbers[j];
-        j += 1;
+    let numbers: [u64; SCALARS] = s.into();
+    scalars[..SCALARS].copy_from_slice(&numbers);
+}
+
+// The number of an answer. The scalars of a call that is done are stored.
+pub fn store_answer(scalars: &mut [u64], answer: Result<Scalars, Refusal>) -> u8
+    requires { 13 ≤ length scalars.old }
+    ensures number { result ≡ answer_number answer }
+    ensures stored { scalars.new ≡ with_scalars scalars.old (answer_or (scalars_in scalars.old) answer) }
+{
+    match answer {
+        Ok(after) => {
+            store_scalars(scalars, after);
+            answers::DONE
+        }
+        Err(refusal) => refusal.number(),
     }
 }
 
@@ -168,9 +82,9 @@ pub fn unfit_answer(settings: Settings) -> u8
     ensures { result ≡ unfit_answer (settings_of settings) }
 {
     if acceptance::settings_sound(settings) {
-        answers::SHORT_BUFFER
+        Refusal::ShortBuffer.number()
     } else {
-        answers::UNSOUND_SETTINGS
+        Refusal::UnsoundSettings.number()
     }
 }
 
@@ -178,4 +92,34 @@ pub fn scalars_fit(scalars: &[u64]) -> bool
     ensures { result ≡ fit scalars.now [] }
 {
     SCALARS <= scalars.len()
+}
+
+// There is room for the scalars, and two other slices pass their tests.
+fn both_fit(scalars: &[u64], first: bool, second: bool) -> bool
+    ensures { result ≡ fit scalars.now (first ∷ second ∷ []) }
+{
+    scalars_fit(scalars) && first && second
+}
+
+// The frame of an exported call: what `call` answers on the settings and scalars of the slices, its scalars stored.
+pub fn exported<F: FnMut(Settings, Scalars) -> Result<Scalars, Refusal>>(
+    settings: &[u64],
+    scalars: &mut [u64],
+    fits: bool,
+    call: &mut F,
+) -> u8
+    requires always { F.IsAlwaysCallable call.old }
+    requires room { IsTrue fits → 13 ≤ length scalars.old }
+    ensures fit { IsTrue fits → (a : Result Scalars Refusal)
+        × F.step call.old (settings_in settings.now) (scalars_in scalars.old) a call.new
+        × (result ≡ answer_number a) × (scalars.new ≡ with_scalars scalars.old (answer_or (scalars_in scalars.old) a)) }
+    ensures unfit { IsFalse fits → (result ≡ unfit_answer (settings_of (settings_in settings.now)))
+        × (scalars.new ≡ scalars.old) × (call.new ≡ call.old) }
+{
+    let chain = settings_from(settings);
+    if !fits {
+        return unfit_answer(chain);
+    }
+    let answer = call(chain, scalars_from(scalars));
+    store_answer(scalars, answer)
 }

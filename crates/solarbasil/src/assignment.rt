@@ -4,7 +4,6 @@ ghost use Rattle.rules.specs.Helpers.{assign_epoch};
 ghost use Rattle.rules.specs.Calls.{assignment_answer};
 ghost use Rattle.slices.specs.Exported.{given};
 
-use helpers::assignment::AssignmentAnswer;
 use primitives::{Epoch, Gwei, answers};
 
 // The epoch that an amount gets, and what is left of that epoch's churn; a refusal leaves both as they were.
@@ -31,10 +30,12 @@ pub extern "C" fn solarbasil_epoch_assignment(
         Gwei(churn),
         Gwei(amount),
     );
-    let AssignmentAnswer::Assigned(assigned) = answer else {
-        return answer.number();
-    };
-    *left_after = assigned.left.0;
-    *epoch = assigned.epoch.0;
-    answers::DONE
+    match answer {
+        Ok(assigned) => {
+            *left_after = assigned.left.0;
+            *epoch = assigned.epoch.0;
+            answers::DONE
+        }
+        Err(refusal) => refusal.number(),
+    }
 }

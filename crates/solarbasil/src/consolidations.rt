@@ -28,25 +28,21 @@ pub extern "C" fn solarbasil_process_consolidation(
         partials.now consolidations.new)
         scalars.old scalars.new result }
 {
-    let chain = slices::settings_from(settings);
-    if !slices::scalars_fit(scalars) {
-        return slices::unfit_answer(chain);
-    }
-    let before = slices::scalars_from(scalars);
-    let outcome = operations::consolidations::process_consolidation(
-        chain,
-        before,
-        identities,
-        validators,
-        deposits,
-        partials,
-        consolidations,
-        ValidatorIndex(source as usize),
-        ValidatorIndex(target as usize),
-        Epoch(epoch),
-        valid,
-    );
-    let after = outcome.scalars;
-    slices::store_scalars(scalars, after);
-    outcome.number
+    let fits = slices::scalars_fit(scalars);
+    let mut call = |chain, before| {
+        operations::consolidations::process_consolidation(
+            chain,
+            before,
+            identities,
+            validators,
+            deposits,
+            partials,
+            consolidations,
+            ValidatorIndex(source as usize),
+            ValidatorIndex(target as usize),
+            Epoch(epoch),
+            valid,
+        )
+    };
+    slices::exported(settings, scalars, fits, &mut call)
 }

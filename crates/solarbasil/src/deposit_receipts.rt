@@ -31,14 +31,15 @@ pub extern "C" fn solarbasil_process_deposit_receipt(
         partials.now consolidations.now)
         scalars.old scalars.new result }
 {
+    // Not by slices::exported: its call may ask nothing, and the copies below need the lengths that are tested here.
     let chain = slices::settings_from(settings);
     if !slices::bytes::receipt_fits(scalars, public_key, withdrawal_credentials) {
         return slices::unfit_answer(chain);
     }
     let before = slices::scalars_from(scalars);
-    let key = slices::bytes::key_from(public_key);
-    let credentials = slices::bytes::credentials_from(withdrawal_credentials);
-    let outcome = operations::deposit_receipts::process_deposit_receipt(
+    let key = slices::bytes::fixed::<48>(public_key);
+    let credentials = slices::bytes::fixed::<32>(withdrawal_credentials);
+    let answer = operations::deposit_receipts::process_deposit_receipt(
         chain,
         before,
         identities,
@@ -52,7 +53,5 @@ pub extern "C" fn solarbasil_process_deposit_receipt(
         index,
         valid,
     );
-    let after = outcome.scalars;
-    slices::store_scalars(scalars, after);
-    outcome.number
+    slices::store_answer(scalars, answer)
 }

@@ -21,21 +21,17 @@ pub extern "C" fn solarbasil_process_pending_balance_deposits(
         partials.now consolidations.now)
         scalars.old scalars.new result }
 {
-    let chain = slices::settings_from(settings);
-    if !slices::scalars_fit(scalars) {
-        return slices::unfit_answer(chain);
-    }
-    let before = slices::scalars_from(scalars);
-    let outcome = electra::deposits::process_pending_balance_deposits(
-        chain,
-        before,
-        identities,
-        validators,
-        deposits,
-        partials,
-        consolidations,
-    );
-    let after = outcome.scalars;
-    slices::store_scalars(scalars, after);
-    outcome.number
+    let fits = slices::scalars_fit(scalars);
+    let mut call = |chain, before| {
+        electra::deposits::process_pending_balance_deposits(
+            chain,
+            before,
+            identities,
+            validators,
+            deposits,
+            partials,
+            consolidations,
+        )
+    };
+    slices::exported(settings, scalars, fits, &mut call)
 }

@@ -6,6 +6,7 @@ ghost use Rattle.slices.specs.Withdrawals.{with_records, with_addresses};
 ghost use Rattle.solarbasil.specs.Expected.{expected_in};
 
 use primitives::answers;
+use records::books::Books;
 
 // Sixteen records of three numbers and sixteen addresses, blank past `count`; of the withdrawals the first
 // `partial_count` are partial withdrawals. A refusal leaves all four as they were.
@@ -54,23 +55,22 @@ pub extern "C" fn solarbasil_get_expected_withdrawals(
         return slices::unfit_answer(chain);
     }
     let before = slices::scalars_from(scalars);
-    let expected = operations::expected::get_expected_withdrawals(
-        chain,
-        before,
+    let books = Books {
+        scalars: before,
         identities,
         validators,
         deposits,
         partials,
         consolidations,
-    );
-    if expected.number != answers::DONE {
-        return expected.number;
+    };
+    match operations::expected::get_expected_withdrawals(chain, &books) {
+        Ok(found) => {
+            slices::withdrawals::store_records(records, found.list);
+            slices::withdrawals::store_addresses(addresses, found.list);
+            *count = found.count as u64;
+            *partial_count = found.partials as u64;
+            answers::DONE
+        }
+        Err(refusal) => refusal.number(),
     }
-    let found = expected.withdrawals;
-    let list = found.list;
-    slices::withdrawals::store_records(records, list);
-    slices::withdrawals::store_addresses(addresses, list);
-    *count = found.count as u64;
-    *partial_count = found.partials as u64;
-    expected.number
 }

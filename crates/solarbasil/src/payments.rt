@@ -30,24 +30,20 @@ pub extern "C" fn solarbasil_process_withdrawals(
         partials.new consolidations.now)
         scalars.old scalars.new result }
 {
-    let chain = slices::settings_from(settings);
-    if !slices::withdrawals::handed_fit(scalars, records, addresses, count) {
-        return slices::unfit_answer(chain);
-    }
-    let before = slices::scalars_from(scalars);
+    let fits = slices::withdrawals::handed_fit(scalars, records, addresses, count);
     let list = slices::withdrawals::withdrawals_from(records, addresses);
-    let outcome = operations::payments::process_withdrawals(
-        chain,
-        before,
-        identities,
-        validators,
-        deposits,
-        partials,
-        consolidations,
-        list,
-        count as usize,
-    );
-    let after = outcome.scalars;
-    slices::store_scalars(scalars, after);
-    outcome.number
+    let mut call = |chain, before| {
+        operations::payments::process_withdrawals(
+            chain,
+            before,
+            identities,
+            validators,
+            deposits,
+            partials,
+            consolidations,
+            list,
+            count as usize,
+        )
+    };
+    slices::exported(settings, scalars, fits, &mut call)
 }

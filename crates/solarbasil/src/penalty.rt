@@ -25,23 +25,19 @@ pub extern "C" fn solarbasil_penalty(
         partials.now consolidations.now)
         scalars.old scalars.new result }
 {
-    let chain = slices::settings_from(settings);
-    if !slices::scalars_fit(scalars) {
-        return slices::unfit_answer(chain);
-    }
-    let before = slices::scalars_from(scalars);
-    let outcome = electra::penalty::penalty(
-        chain,
-        before,
-        identities,
-        validators,
-        deposits,
-        partials,
-        consolidations,
-        ValidatorIndex(validator as usize),
-        Gwei(amount),
-    );
-    let after = outcome.scalars;
-    slices::store_scalars(scalars, after);
-    outcome.number
+    let fits = slices::scalars_fit(scalars);
+    let mut call = |chain, before| {
+        electra::penalty::penalty(
+            chain,
+            before,
+            identities,
+            validators,
+            deposits,
+            partials,
+            consolidations,
+            ValidatorIndex(validator as usize),
+            Gwei(amount),
+        )
+    };
+    slices::exported(settings, scalars, fits, &mut call)
 }

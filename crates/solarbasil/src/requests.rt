@@ -29,14 +29,15 @@ pub extern "C" fn solarbasil_process_execution_layer_withdrawal_request(
         partials.new consolidations.now)
         scalars.old scalars.new result }
 {
+    // Not by slices::exported: its call may ask nothing, and the copies below need the lengths that are tested here.
     let chain = slices::settings_from(settings);
     if !slices::bytes::request_fits(scalars, source_address, public_key) {
         return slices::unfit_answer(chain);
     }
     let before = slices::scalars_from(scalars);
-    let address = slices::bytes::address_from(source_address);
-    let key = slices::bytes::key_from(public_key);
-    let outcome = operations::withdrawal_requests::process_execution_layer_withdrawal_request(
+    let address = slices::bytes::fixed::<20>(source_address);
+    let key = slices::bytes::fixed::<48>(public_key);
+    let answer = operations::withdrawal_requests::process_execution_layer_withdrawal_request(
         chain,
         before,
         identities,
@@ -48,7 +49,5 @@ pub extern "C" fn solarbasil_process_execution_layer_withdrawal_request(
         key,
         Gwei(amount),
     );
-    let after = outcome.scalars;
-    slices::store_scalars(scalars, after);
-    outcome.number
+    slices::store_answer(scalars, answer)
 }

@@ -5,8 +5,8 @@ ghost use Rattle.records.specs.Books.{tables, books_of};
 ghost use Rattle.slices.specs.Numbers.{scalars_in};
 ghost use Rattle.slices.specs.Exported.{asked_answer, given};
 
-use electra::total::Total;
 use primitives::answers;
+use records::books::Books;
 
 // Balances plus waiting deposits; a refusal leaves `total` as it was.
 #[unsafe(no_mangle)]
@@ -35,18 +35,19 @@ pub extern "C" fn solarbasil_total(
         return slices::unfit_answer(chain);
     }
     let before = slices::scalars_from(scalars);
-    let answer = electra::total::held(
-        chain,
-        before,
+    let books = Books {
+        scalars: before,
         identities,
         validators,
         deposits,
         partials,
         consolidations,
-    );
-    let Total::Held(sum) = answer else {
-        return answer.number();
     };
-    *total = sum.0;
-    answers::DONE
+    match electra::total::held(chain, &books) {
+        Ok(sum) => {
+            *total = sum.0;
+            answers::DONE
+        }
+        Err(refusal) => refusal.number(),
+    }
 }

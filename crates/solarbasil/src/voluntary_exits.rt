@@ -27,24 +27,20 @@ pub extern "C" fn solarbasil_process_voluntary_exit(
         partials.now consolidations.now)
         scalars.old scalars.new result }
 {
-    let chain = slices::settings_from(settings);
-    if !slices::scalars_fit(scalars) {
-        return slices::unfit_answer(chain);
-    }
-    let before = slices::scalars_from(scalars);
-    let outcome = operations::voluntary_exits::process_voluntary_exit(
-        chain,
-        before,
-        identities,
-        validators,
-        deposits,
-        partials,
-        consolidations,
-        ValidatorIndex(validator as usize),
-        Epoch(epoch),
-        valid,
-    );
-    let after = outcome.scalars;
-    slices::store_scalars(scalars, after);
-    outcome.number
+    let fits = slices::scalars_fit(scalars);
+    let mut call = |chain, before| {
+        operations::voluntary_exits::process_voluntary_exit(
+            chain,
+            before,
+            identities,
+            validators,
+            deposits,
+            partials,
+            consolidations,
+            ValidatorIndex(validator as usize),
+            Epoch(epoch),
+            valid,
+        )
+    };
+    slices::exported(settings, scalars, fits, &mut call)
 }

@@ -1,8 +1,11 @@
 -- The facts that the stores are proved by.
-use Rattle.std.specs.Prelude.{◌≡◌, true, List, [], ◌∷◌, ◌++◌, ℕ, ◌+◌, ◌*◌, ◌≤◌, ◌<◌, length, drop}
+use Rattle.std.specs.Prelude.{◌≡◌, true, List, [], ◌∷◌, ◌++◌, ℕ, ◌+◌, ◌*◌, ◌≤◌, ◌<◌, length, take, drop}
 use Rattle.std.proofs.Math.Path.{refl, ap}
-use Rattle.std.proofs.Common.{sym, ap₂, ◌∙◌, add-one, arith}
+use Rattle.std.proofs.Common.{sym, ap₂, ◌∙◌, add-one, arith, length-take, length-drop}
 use Rattle.std.proofs.Math.Seq.{paste}
+use Rattle.std.proofs.lemmas.List.Edits.{length-paste}
+use Rattle.std.proofs.lemmas.Slice.{put_mid-paste}
+use borrow.Rule.Slice.PartMut.{put_mid}
 use Rattle.tables.specs.Rows.{rows, rows_snoc}
 use Rattle.rules.specs.Types.{Validator}
 use Rattle.primitives.specs.declared.Scalars.{Scalars}
@@ -24,6 +27,31 @@ use Rattle.file_records.specs.Books.{validators_counted, deposits_counted, parti
 use Rattle.file_records.specs.Books.{file_validators, file_deposits, file_partials, file_consolidations, file_books}
 use Rattle.table_stores.specs.Stored.{Stored, ValidatorsStored, DepositsStored, PartialsStored}
 use Rattle.table_stores.specs.Stored.{ConsolidationsStored, BooksStored}
+
+-- ---- a field into its part of a table, w bytes from `at` on
+
+module _ (bs : List ℕ) (k n : ℕ) (e : (field n).ok (drop k (words bs)) ≡ true) (l : List ℕ) (at w : ℕ) where
+  abbrev part : List ℕ
+  part = take w (drop at l)
+
+  module _ (h : at + n ≤ length l) (q : w ≡ n) where
+    part_size : length part ≡ n
+    part_size = simp (length-take, length-drop) (omega arith)
+
+    pub part_ok : (field (length part)).ok (drop k (words bs)) ≡ true
+    part_ok = rw part_size e
+
+    pub part_put : {ys : List ℕ} → ys ≡ (field (length part)).value (drop k (words bs))
+        → put_mid at w l ys ≡ paste l at ((field n).value (drop k (words bs))) n
+    part_put {ys} p =
+        put_mid-paste at w l ys ((field n).value (drop k (words bs))) n (rw part_size at p) (sym q)
+        (sym (field_size bs k n e))
+
+    pub part_length : {ys : List ℕ} → ys ≡ (field (length part)).value (drop k (words bs))
+        → length (put_mid at w l ys) ≡ length l
+    part_length p =
+        ap length (part_put p)
+        ∙ length-paste l at ((field n).value (drop k (words bs))) n h (omega (arith, field_size bs k n e))
 
 -- ---- a validator at word k
 
@@ -109,10 +137,6 @@ module _ {A : Type 0} (decode : List ℕ → ℕ → A) (width : ℕ) (g : ℕ �
     past = p.past ∙ drop_more (width * i) (width * (i + 1)) mid old (omega arith) s.past;
   }
 
-  pub stored_all : {i n : ℕ} {old new : List ℕ} → i ≤ n → n ≤ i → Stored decode width i (rows i g) old new
-      → Stored decode width n (rows n g) old new
-  stored_all {i} {n} h k s = let q : i ≡ n = omega arith in rw q at s
-
 -- ---- the same of the registry's two tables
 
 module _ (ws : List ℕ) where
@@ -142,10 +166,6 @@ module _ (ws : List ℕ) where
     validators_past =
         p.validators_past ∙ validators_past_more i (i + 1) mid_vs vs (omega arith) s.validators_past;
   }
-
-  pub validators_all : {i n : ℕ} {ids vs new_ids new_vs : List ℕ} → i ≤ n → n ≤ i
-      → ValidatorsStored ws i ids vs new_ids new_vs → ValidatorsStored ws n ids vs new_ids new_vs
-  validators_all {i} {n} h k s = let q : i ≡ n = omega arith in rw q at s
 
 -- ---- the books
 

@@ -3,25 +3,24 @@
 
 #![tactic(auto)]
 
-ghost use Rattle.std.specs.Prelude.{◌≡◌, true, ◌≤◌, ◌<◌, ◌^◌, drop};
-ghost use Rattle.records.specs.Layout.{identities_fit, validators_fit, deposits_fit, partials_fit, consolidations_fit};
+ghost use Rattle.std.specs.Prelude.{◌≡◌, true, ◌/◌, ◌≤◌, ◌<◌, ◌^◌, length, drop};
+ghost use Rattle.records.specs.Layout.{identities_fit, validators_fit};
 ghost use Rattle.records.specs.Books.{tables};
 ghost use Rattle.records.specs.Stores.{put_validator, ValidatorPushed};
 ghost use Rattle.file_format.specs.Words.{words};
-ghost use Rattle.file_format.specs.Books.{validator, deposit, partial, consolidation};
+ghost use Rattle.file_format.specs.Books.{validator};
 ghost use Rattle.file_format.specs.PlacesLaws.{Good};
 ghost use Rattle.file_records.specs.Scalars.{scalars_at};
-ghost use Rattle.file_records.specs.Lists.{Readable};
-ghost use Rattle.table_stores.specs.Stored.{ValidatorsStored, DepositsStored, PartialsStored};
-ghost use Rattle.table_stores.specs.Stored.{ConsolidationsStored, Fits, BooksStored};
+ghost use Rattle.file_records.specs.Lists.{records_from, Readable};
+ghost use Rattle.table_stores.specs.Stored.{Stored, ValidatorsStored, Fits, BooksStored};
 
 use books_file::{consolidations_place, deposits_place, partials_place};
 use file_bytes::put_field;
-use file_records::{consolidation_at, deposit_at, partial_at};
+use file_records::record::FileRecord;
 use file_words::{flag_at, number_at};
 use primitives::{Scalars, ValidatorIndex};
-use records::queues::{push_consolidation, push_deposit, push_partial};
-use records::registry::{credentials_place, put_words};
+use records::queues::{PendingBalanceDeposit, PendingConsolidation, PendingPartialWithdrawal};
+use records::registry::{credentials_place, put_row};
 
 // ---- a validator at word k of the file, straight into the tables, behind the first n
 
@@ -39,16 +38,18 @@ fn store_words(file: &[u8], k: usize, validators: &mut [u64], n: usize)
     let exit_epoch = number_at(file, k + 37);
     let withdrawable_epoch = number_at(file, k + 40);
     let balance = number_at(file, k + 43);
-    put_words(
+    put_row(
         validators,
         n,
-        slashed,
-        effective_balance,
-        activation_eligibility_epoch,
-        activation_epoch,
-        exit_epoch,
-        withdrawable_epoch,
-        balance,
+        [
+            slashed,
+            effective_balance,
+            activation_eligibility_epoch,
+            activation_epoch,
+            exit_epoch,
+            withdrawable_epoch,
+            balance,
+        ],
     );
 }
 
@@ -60,8 +61,8 @@ fn store_validator(file: &[u8], k: usize, identities: &mut [u8], validators: &mu
         identities.old validators.old identities.new validators.new }
 {
     let credentials = credentials_place(identities, ValidatorIndex(n));
-    put_field(file, k, 48, identities, 48 * n);
-    put_field(file, k + 16, 32, identities, credentials);
+    put_field(file, k, &mut identities[48 * n..48 * n + 48]);
+    put_field(file, k + 16, &mut identities[credentials..credentials + 32]);
     store_words(file, k, validators, n);
 }
 
@@ -74,50 +75,21 @@ fn store_validators(file: &[u8], n: usize, identities: &mut [u8], validators: &m
     ensures { ValidatorsStored (words file.now) n identities.old validators.old
         identities.new validators.new }
 {
-    let mut i: usize = 0;
-    while i < n {
+    for i in 0..n {
         store_validator(file, 86 + i * 46, identities, validators, i);
-        i += 1;
     }
 }
 
-// n deposits from word k on.
-fn store_deposits(file: &[u8], k: usize, n: usize, deposits: &mut [u64])
-    requires readable { Readable deposit 6 k n (words file.now) }
-    requires n_fits { n ≤ deposits_fit deposits.old }
-    ensures { DepositsStored (words file.now) k n deposits.old deposits.new }
+// n records from word k on, as the first n of the table.
+fn store_records<R: FileRecord>(file: &[u8], k: usize, n: usize, table: &mut [u64])
+    requires readable { Readable R.format R.WORDS k n (words file.now) }
+    requires n_fits { n ≤ length table.old / R.width }
+    ensures { Stored R.decode R.width n
+        (records_from R.format R.WORDS k n (words file.now))
+        table.old table.new }
 {
-    let mut i: usize = 0;
-    while i < n {
-        push_deposit(deposits, i, deposit_at(file, k + i * 6));
-        i += 1;
-    }
-}
-
-// n partial withdrawals from word k on.
-fn store_partials(file: &[u8], k: usize, n: usize, partials: &mut [u64])
-    requires readable { Readable partial 9 k n (words file.now) }
-    requires n_fits { n ≤ partials_fit partials.old }
-    ensures { PartialsStored (words file.now) k n partials.old partials.new }
-{
-    let mut i: usize = 0;
-    while i < n {
-        push_partial(partials, i, partial_at(file, k + i * 9));
-        i += 1;
-    }
-}
-
-// n consolidations from word k on.
-fn store_consolidations(file: &[u8], k: usize, n: usize, consolidations: &mut [u64])
-    requires readable { Readable consolidation 6 k n (words file.now) }
-    requires n_fits { n ≤ consolidations_fit consolidations.old }
-    ensures { ConsolidationsStored (words file.now) k n
-        consolidations.old consolidations.new }
-{
-    let mut i: usize = 0;
-    while i < n {
-        push_consolidation(consolidations, i, consolidation_at(file, k + i * 6));
-        i += 1;
+    for i in 0..n {
+        R::read(file, k + i * R::WORDS).push(table, i);
     }
 }
 
@@ -142,9 +114,19 @@ pub fn store_books(
         partials.new consolidations.new) }
 {
     store_validators(file, scalars.validators, identities, validators);
-    store_deposits(file, deposits_place(file) + 1, scalars.deposits, deposits);
-    store_partials(file, partials_place(file) + 1, scalars.partials, partials);
-    store_consolidations(
+    store_records::<PendingBalanceDeposit>(
+        file,
+        deposits_place(file) + 1,
+        scalars.deposits,
+        deposits,
+    );
+    store_records::<PendingPartialWithdrawal>(
+        file,
+        partials_place(file) + 1,
+        scalars.partials,
+        partials,
+    );
+    store_records::<PendingConsolidation>(
         file,
         consolidations_place(file) + 1,
         scalars.consolidations,

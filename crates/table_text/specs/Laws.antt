@@ -1,9 +1,10 @@
 -- Laws of the printed text, in the forms that the code's proofs use.
 use Rattle.std.specs.Prelude.{◌≡◌, List, [], ◌∷◌, ◌++◌, ℕ, zero, suc, ◌+◌, ◌*◌, ◌-◌, ◌/◌, ◌%◌, ◌≤◌, ◌<◌, length}
-use Rattle.std.specs.Prelude.{get_or, set, drop}
+use Rattle.std.specs.Prelude.{set, take, drop}
 use Rattle.std.proofs.Math.Path.{refl, sym}
-use Rattle.std.proofs.Common.{ap, ◌∙◌, add-one, zero-add, add-zero, arith, length-append, drop_of_length-le, drop-cons}
+use Rattle.std.proofs.Common.{ap, ◌∙◌, zero-add, arith, append_assoc, length-append, drop-drop}
 use Rattle.std.proofs.Math.Seq.{sets}
+use borrow.Rule.Slice.PartMut.{put_mid}
 use Rattle.std.proofs.lemmas.List.Edits.{sets-eq}
 use Rattle.std.proofs.lemmas.List.{set_comm}
 use Rattle.tables.specs.Rows.{drop_rows_at, drop_rows_end}
@@ -33,19 +34,14 @@ pub stored_behind : (o : List ℕ) (at : ℕ) (xs ys : List ℕ) (k : ℕ) {m r 
     → m ≡ sets o at xs → r ≡ sets m k ys → k ≡ at + length xs → r ≡ sets o at (xs ++ ys)
 stored_behind o at xs ys k p q h = q ∙ ap (λ z. sets z k ys) p ∙ sets_append o at xs ys k h
 
--- a loop that copies bytes has the rest of them left
-pub copy_none : (out : List ℕ) (at : ℕ) (bs : List ℕ) → sets out (at + 0) (drop 0 bs) ≡ sets out at bs
-copy_none out at bs = ap (λ k. sets out k bs) (add-zero at)
-
-pub copy_more : (out : List ℕ) (at : ℕ) (bs : List ℕ) (i : ℕ) → i < length bs
-    → sets (set out (at + i) (get_or bs i 0)) (at + (i + 1)) (drop (i + 1) bs) ≡ sets out (at + i) (drop i bs)
-copy_more out at bs i h =
-    let next : at + (i + 1) ≡ suc (at + i) = omega arith in
-    rw (next, add-one) (sym (ap (sets out (at + i)) (drop-cons bs i 0 h)))
-
-pub copy_end : (out : List ℕ) (at : ℕ) (bs : List ℕ) (i : ℕ) {o : List ℕ} → length bs ≤ i
-    → sets out (at + i) (drop i bs) ≡ o → out ≡ o
-copy_end out at bs i h e = sym (ap (sets out (at + i)) (drop_of_length-le bs {i = i} h)) ∙ e
+-- bytes copied to their place
+pub bytes_put : (out bs ys : List ℕ) (at w : ℕ) → at + length bs ≤ length out → w ≡ length bs → ys ≡ bs
+    → put_mid at w out ys ≡ sets out at bs
+bytes_put out bs ys at w h e p =
+    let rest : drop w (drop at out) ≡ drop (at + length bs) out = rw e (drop-drop (length bs) at out) in
+    (λ j. take at out ++ (p j ++ rest j))
+    ∙ sym (append_assoc (take at out) bs (drop (at + length bs) out))
+    ∙ sym (sets-eq bs out at h)
 
 -- ---- digits
 

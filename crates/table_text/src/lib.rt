@@ -12,11 +12,7 @@ fn put_bytes(out: &mut [u8], at: usize, bytes: &[u8])
     requires { at + length bytes.now ≤ length out.old }
     ensures { out.new ≡ sets out.old at bytes.now }
 {
-    let mut i: usize = 0;
-    while i < bytes.len() {
-        out[at + i] = bytes[i];
-        i += 1;
-    }
+    out[at..at + bytes.len()].copy_from_slice(bytes);
 }
 
 fn digit(n: u64) -> u8
@@ -31,9 +27,7 @@ fn put_decimal(out: &mut [u8], at: usize, width: usize, n: u64)
     ensures { out.new ≡ sets out.old at (decimal width n) }
 {
     let mut left = n;
-    let mut i = width;
-    while i > 0 {
-        i -= 1;
+    for i in (0..width).rev() {
         out[at + i] = digit(left);
         left /= 10;
     }
@@ -65,17 +59,15 @@ fn put_lines(results: &[u64], n: usize, out: &mut [u8])
     requires out_holds_lines { 23 + 32 * n ≤ length out.old }
     ensures { out.new ≡ sets out.old 23 (text_lines 1 (lines_of results.now n)) }
 {
-    let mut i: usize = 0;
-    while i < n {
+    for i in 0..n {
         let code = results[3 * i];
         let answer = results[3 * i + 1];
         let total = results[3 * i + 2];
         put_line(out, 23 + 32 * i, i as u64 + 1, code, answer, total);
-        i += 1;
     }
 }
 
-// The table of n calls; its length.
+// The table of n calls; its length. The results lie in a fixed buffer, of which a run fills the first n lines.
 pub fn put_table(results: &[u64], n: usize, out: &mut [u8]) -> usize
     requires results_hold_calls { 3 * n ≤ length results.now }
     requires out_holds_lines { 23 + 32 * n ≤ length out.old }

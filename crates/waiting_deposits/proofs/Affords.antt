@@ -1,7 +1,7 @@
 -- The steps of a walk over the list of deposits.
 use Rattle.std.proofs.Math.Path.{◌≡◌, refl, ap}
 use Rattle.std.proofs.Common.{sym, ◌∙◌, add-one, drop_of_length-le, drop-cons}
-use Rattle.std.specs.Prelude.{Bool, List, [], ◌∷◌, map, get_or, drop}
+use Rattle.std.specs.Prelude.{Some, None, Bool, List, [], ◌∷◌, map, get_or, drop}
 use Rattle.std.proofs.Math.Bool.{true, false}
 use Prim.Native.Nat.{ℕ, suc, ◌+◌, ◌-◌, ◌<◌, ◌≤◌}
 use native.Mathlib.Omega.{arith}
@@ -13,8 +13,37 @@ use Rattle.rules.specs.Acceptance.{deposit_amounts}
 use Rattle.primitives.specs.declared.Gwei.{Gwei}
 use Rattle.records.specs.Plain.{plain_deposit}
 use Rattle.records.specs.declared.queues.PendingBalanceDeposit.{PendingBalanceDeposit}
-use Rattle.waiting_deposits.specs.declared.Credited.{Credited}
 use Rattle.waiting_deposits.specs.Affords.{credited, affordable_of, affords, spent_off, no_deposit, stop_at, after}
+
+-- ---- one deposit
+
+over : (left amount : Gwei) → credited left amount ≡ None → left.0 < amount.0
+unfolding credited when◌then◌else◌
+over left amount e = go (ltb left.0 amount.0) refl
+  where
+    go : (t : Bool) → ltb left.0 amount.0 ≡ t → left.0 < amount.0
+    go true f = ltb-true left.0 amount.0 f
+    go false f = let z = rw f at e in cc
+
+under : (left amount : Gwei) {rest : Gwei} → credited left amount ≡ Some rest
+    → (amount.0 ≤ left.0) × (rest ≡ record { 0 = left.0 - amount.0 })
+unfolding credited when◌then◌else◌
+under left amount {rest} e = go (ltb left.0 amount.0) refl
+  where
+    go : (t : Bool) → ltb left.0 amount.0 ≡ t → (amount.0 ≤ left.0) × (rest ≡ record { 0 = left.0 - amount.0 })
+    go false f = let z = rw f at e in (ltb-false left.0 amount.0 f, cc)
+    go true f = let z = rw f at e in cc
+
+pub credited_none : (left amount : Gwei) → left.0 < amount.0 → credited left amount ≡ None
+unfolding credited when◌then◌else◌
+credited_none left amount h = rw (lt-ltb left.0 amount.0 h)
+
+pub credited_some : (left amount : Gwei) → amount.0 ≤ left.0
+    → credited left amount ≡ Some (record { 0 = left.0 - amount.0 })
+unfolding credited when◌then◌else◌
+credited_some left amount h = rw (le-ltb left.0 amount.0 h)
+
+-- ---- the list
 
 affords_none : (left : Gwei) → affords [] left ≡ stop_at 0 left
 unfolding affords
@@ -56,47 +85,21 @@ module _ (ds : List PendingBalanceDeposit) (i : ℕ) (left : Gwei) where
       ∙ ap (after i) (affords_none left)
       ∙ stopped
 
-  -- c is what `credit` says of the deposit at i
-  module _ (c : Credited) (is : c ≡ credited left (get_or ds i no_deposit).amount) (within : i < length ds) where
+  module _ (within : i < length ds) where
     abbrev d : PendingBalanceDeposit
     d = get_or ds i no_deposit
 
     here : affords (drop i ds) left ≡ affords (d ∷ drop (suc i) ds) left
     here = ap (λ (xs : List PendingBalanceDeposit). affords xs left) (drop-cons ds i no_deposit within)
 
-    over : c.within ≡ false → left.0 < d.amount.0
-    unfolding credited when◌then◌else◌
-    over e = go (ltb left.0 d.amount.0) refl
-      where
-        go : (t : Bool) → ltb left.0 d.amount.0 ≡ t → left.0 < d.amount.0
-        go true f = ltb-true left.0 d.amount.0 f
-        go false f =
-            let p : c.within ≡ true = ap (λ (x : Credited). x.within) is ∙ rw f in
-            let z : ◌≡◌ {A = ℕ} 0 1 = cc in
-            omega arith
+    pub at_over : credited left d.amount ≡ None → after i (affords (drop i ds) left) ≡ stop_at i left
+    at_over e = ap (after i) (here ∙ affords_over d (drop (suc i) ds) left (over left d.amount e)) ∙ stopped
 
-    under : c.within ≡ true → d.amount.0 ≤ left.0
-    unfolding credited when◌then◌else◌
-    under e = go (ltb left.0 d.amount.0) refl
-      where
-        go : (t : Bool) → ltb left.0 d.amount.0 ≡ t → d.amount.0 ≤ left.0
-        go false f = ltb-false left.0 d.amount.0 f
-        go true f =
-            let p : c.within ≡ false = ap (λ (x : Credited). x.within) is ∙ rw f in
-            let z : ◌≡◌ {A = ℕ} 0 1 = cc in
-            omega arith
-
-    left_after : d.amount.0 ≤ left.0 → c.left ≡ record { 0 = left.0 - d.amount.0 }
-    unfolding credited when◌then◌else◌
-    left_after h = ap (λ (x : Credited). x.left) is ∙ rw (le-ltb left.0 d.amount.0 h)
-
-    pub at_over : c.within ≡ false → after i (affords (drop i ds) left) ≡ stop_at i left
-    at_over e = ap (after i) (here ∙ affords_over d (drop (suc i) ds) left (over e)) ∙ stopped
-
-    pub at_more : c.within ≡ true
-        → after i (affords (drop i ds) left) ≡ after (i + 1) (affords (drop (i + 1) ds) c.left)
-    at_more e =
+    pub at_more : {rest : Gwei} → credited left d.amount ≡ Some rest
+        → after i (affords (drop i ds) left) ≡ after (i + 1) (affords (drop (i + 1) ds) rest)
+    at_more {rest} e =
+        let h = under left d.amount e in
         let next : suc i ≡ i + 1 = sym (add-one i) in
         let sum : (n : ℕ) → i + (1 + n) ≡ i + 1 + n = λ n. omega arith in
-        ap (after i) (here ∙ affords_more d (drop (suc i) ds) left (under e))
-        ∙ rw (← left_after (under e), next, sum)
+        ap (after i) (here ∙ affords_more d (drop (suc i) ds) left h.0)
+        ∙ rw (← h.1, next, sum)

@@ -1,7 +1,7 @@
 -- The deposits of a list that a sum pays for, by the rules' `affordable`, and what is left of the sum; the steps of a
 -- walk over the list.
 use Rattle.std.proofs.Math.Path.{◌≡◌, refl}
-use Rattle.std.specs.Prelude.{Bool, List, [], ◌∷◌, map}
+use Rattle.std.specs.Prelude.{Option, Some, None, Bool, List, [], ◌∷◌, map}
 use Rattle.std.proofs.Math.Bool.{true, false}
 use Prim.Native.Nat.{ℕ, ◌+◌, ◌-◌, ◌≤◌}
 use native.Mathlib.Omega.{arith}
@@ -15,15 +15,14 @@ use Rattle.rules.specs.Counting as counting
 use Rattle.primitives.specs.declared.Gwei.{Gwei}
 use Rattle.records.specs.Plain.{plain_deposit}
 use Rattle.records.specs.declared.queues.PendingBalanceDeposit.{PendingBalanceDeposit}
-use Rattle.waiting_deposits.specs.declared.Credited.{Credited}
 use Rattle.waiting_deposits.specs.declared.AffordableDeposits.{AffordableDeposits}
 
--- one deposit
-unfoldable pub credited : Gwei → Gwei → Credited
+-- what is left after one deposit, where it is within what is left before
+unfoldable pub credited : Gwei → Gwei → Option Gwei
 credited left amount =
     when ltb left.0 amount.0
-    then record { within = false; left = left }
-    else record { within = true; left = record { 0 = left.0 - amount.0 } }
+    then None
+    else Some (record { 0 = left.0 - amount.0 })
 
 abbrev pub affordable_of : List PendingBalanceDeposit → ℕ → List rule.PendingBalanceDeposit
 affordable_of ds available = counting.affordable available 0 (map plain_deposit ds)

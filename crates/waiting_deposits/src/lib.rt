@@ -11,15 +11,8 @@ ghost use Rattle.records.specs.Layout.{deposit_at, deposits_fit};
 ghost use Rattle.waiting_deposits.specs.Affords.{credited, affords};
 ghost use Rattle.waiting_deposits.specs.Blocks.{Block, Affordable};
 
-use primitives::{Gwei, ValidatorIndex, min_usize};
+use primitives::{Gwei, ValidatorIndex};
 use records::queues::PendingBalanceDeposit;
-
-// Whether a deposit is within what is left, and what is left after it.
-#[derive(Clone, Copy)]
-pub struct Credited {
-    pub within: bool,
-    pub left: Gwei,
-}
 
 // How many deposits are credited, and what is left then.
 #[derive(Clone, Copy)]
@@ -28,38 +21,29 @@ pub struct AffordableDeposits {
     pub left: Gwei,
 }
 
-pub fn credit(left: Gwei, amount: Gwei) -> Credited
+// What is left after a deposit, where it is within what is left before.
+#[tactic(auto, using(crate::proofs::Affords::credited_none, crate::proofs::Affords::credited_some))]
+pub fn credit(left: Gwei, amount: Gwei) -> Option<Gwei>
     ensures { result ≡ credited left amount }
 {
-    if left.0 < amount.0 {
-        return Credited {
-            within: false,
-            left,
-        };
-    }
-    Credited {
-        within: true,
-        left: Gwei(left.0 - amount.0),
-    }
+    left.0.checked_sub(amount.0).map(Gwei)
 }
 
 // The deposits before the first that would bring their sum over `available`, else all.
+#[tactic(auto, using(crate::proofs::Affords::at_end, crate::proofs::Affords::at_over, crate::proofs::Affords::at_more))]
 pub fn affordable(deposits: &[PendingBalanceDeposit], available: Gwei) -> AffordableDeposits
     ensures { result ≡ affords deposits.now available }
 {
-    let mut i: usize = 0;
     let mut left = available;
-    while i < deposits.len() {
-        let c = credit(left, deposits[i].amount);
-        if !c.within {
-            break;
-        }
-        left = c.left;
-        i = i + 1;
+    for (count, deposit) in deposits.iter().enumerate() {
+        let Some(rest) = credit(left, deposit.amount) else {
+            return AffordableDeposits { count, left };
+        };
+        left = rest;
     }
     AffordableDeposits {
-        count: i,
-        left: left,
+        count: deposits.len(),
+        left,
     }
 }
 
@@ -77,7 +61,7 @@ pub fn affordable_of(
 
 // ---- a table of deposits
 
-// Up to sixteen deposits: the first `count` of the array.
+// Up to sixteen deposits: the first `count` of the array. An array, since what calls `affordable_of` lends no records.
 #[derive(Clone, Copy)]
 pub struct DepositBlock {
     pub deposits: [PendingBalanceDeposit; 16],
@@ -94,11 +78,9 @@ fn block_from(deposits: &[u64], from: usize, m: usize) -> DepositBlock
         amount: Gwei(0),
     };
     let mut list = [blank; 16];
-    let count = min_usize(m - from, 16);
-    let mut k = 0;
-    while k < count {
-        list[k] = records::queues::deposit_at(deposits, from + k);
-        k += 1;
+    let count = (m - from).min(16);
+    for k in 0..count {
+        list[k] = records::queues::entry_at(deposits, from + k);
     }
     DepositBlock {
         deposits: list,
@@ -111,23 +93,17 @@ pub fn affordable_deposits(deposits: &[u64], m: usize, available: Gwei) -> Affor
     requires { m ≤ deposits_fit deposits.now }
     ensures { Affordable available.0 (rows m (deposit_at deposits.now)) result.count result.left.0 }
 {
-    let mut next: usize = 0;
-    let mut left = available.0;
+    let mut next = 0;
+    let mut left = available;
+    // No range of blocks: the last is shorter and the walk can stop within any, so that each would be counted again.
     while next < m {
         let block = block_from(deposits, next, m);
-        let list = block.deposits;
-        let lent = affordable_of(list, block.count, Gwei(left));
-        next = next + lent.count;
-        left = lent.left.0;
+        let lent = affordable_of(block.deposits, block.count, left);
+        next += lent.count;
+        left = lent.left;
         if lent.count < block.count {
-            return AffordableDeposits {
-                count: next,
-                left: Gwei(left),
-            };
+            break;
         }
     }
-    AffordableDeposits {
-        count: next,
-        left: Gwei(left),
-    }
+    AffordableDeposits { count: next, left }
 }

@@ -73,10 +73,6 @@ module _ (list : List Withdrawal) (n k : ℕ) where
 
 -- ---- the comparison
 
-pub same_last : (x y : rule.Withdrawal) → x.index ≡ y.index → x.validator_index ≡ y.validator_index
-    → same_bytes x.address y.address ≡ true → eqb x.amount y.amount ≡ same_withdrawal x y
-same_last x y i v a = simp (eq-eqb _ _ i, eq-eqb _ _ v, a)
-
 pub differ : (xs ys : List rule.Withdrawal) → length xs ≢ length ys → false ≡ same_withdrawals xs ys
 differ [] [] h = absurd (h refl)
 differ [] (y ∷ ys) h = refl
@@ -91,31 +87,6 @@ differ (x ∷ xs) (y ∷ ys) h = go (same_withdrawal x y) (differ xs ys (λ e. h
 pub too_long : (list : List Withdrawal) (n : ℕ) (ws : List rule.Withdrawal) → length ws ≤ 16 → 16 < n
     → same_withdrawals (handed_list list n) ws ≡ false
 too_long list n ws h k = sym (differ (handed_list list n) ws (λ e. omega (arith, e, length_handed list n)))
-
-module _ (l m : List Withdrawal) (n : ℕ) (hl : n ≤ length l) (hm : n ≤ length m) (k : ℕ)
-    (inv : same_withdrawals (drop k (handed_list l n)) (drop k (handed_list m n))
-    ≡ same_withdrawals (handed_list l n) (handed_list m n)) where
-  step : k < n
-      → same_withdrawals
-      (plain_withdrawal (get_or l k past) ∷ drop (k + 1) (handed_list l n))
-      (plain_withdrawal (get_or m k past) ∷ drop (k + 1) (handed_list m n))
-      ≡ same_withdrawals (handed_list l n) (handed_list m n)
-  step q =
-      sym (ap₂ same_withdrawals (handed_at l n k q (omega arith)) (handed_at m n k q (omega arith))) ∙ inv
-
-  pub same_more : k < n
-      → same_withdrawal (plain_withdrawal (get_or l k past)) (plain_withdrawal (get_or m k past)) ≡ true
-      → same_withdrawals (drop (k + 1) (handed_list l n)) (drop (k + 1) (handed_list m n))
-      ≡ same_withdrawals (handed_list l n) (handed_list m n)
-  same_more q t = rw t at (step q)
-
-  pub same_stop : k < n
-      → same_withdrawal (plain_withdrawal (get_or l k past)) (plain_withdrawal (get_or m k past)) ≡ false
-      → false ≡ same_withdrawals (handed_list l n) (handed_list m n)
-  same_stop q t = rw t at (step q)
-
-  pub same_end : n ≤ k → true ≡ same_withdrawals (handed_list l n) (handed_list m n)
-  same_end q = sym (ap₂ same_withdrawals (handed_end l n k q) (handed_end m n k q)) ∙ inv
 
 -- ---- lists that pass the comparison are equal
 
@@ -213,12 +184,6 @@ module _ {n : ℕ} {ws : List rule.Withdrawal} {old new : List ℕ} {k : ℕ} (p
     validators = λ ids. sym (ap (λ l. pay_withdrawals l (rows n (validator_at ids new))) e) ∙ p.validators ids;
     past = p.past;
   }
-
--- no entry leaves the queue
-pub none_drained : (left : ℕ) (ps : List ℕ) → PartialsDrained 0 left ps ps
-none_drained left ps =
-    let z : 0 + left ≡ left = omega arith in
-    record { records = ap (λ n. rows n (partial_at ps)) (sym z); past = refl }
 
 -- ---- what the expected list holds
 

@@ -5,71 +5,51 @@
 ghost use Rattle.std.specs.Prelude.{◌≡◌, true, ◌+◌, ◌<◌, ◌≤◌, ◌^◌};
 ghost use Rattle.lists.specs.Base.{every};
 ghost use Rattle.rules.specs.Types as rule;
-ghost use Rattle.rules.specs.BlockProcessing.{same_withdrawal, same_withdrawals, withdrawals_refusal};
+ghost use Rattle.rules.specs.BlockProcessing.{same_withdrawals, withdrawals_refusal};
 ghost use Rattle.rules.specs.BlockProcessing.{get_expected_withdrawals, next_index, next_validator_index};
 ghost use Rattle.rules.specs.BlockProcessing.{process_withdrawals};
 ghost use Rattle.rules.specs.Acceptance.{sound_settings, sound_books};
 ghost use Rattle.rules.specs.Calls.{enough_room};
 ghost use Rattle.rule_laws.specs.Withdrawals.{withdrawal_in};
+ghost use Rattle.primitives.specs.Answers.{answer_number};
 ghost use Rattle.primitives.specs.Settings.{settings_of};
 ghost use Rattle.records.specs.Layout.{validators_fit, partials_fit};
 ghost use Rattle.records.specs.Queues.{PartialsDrained};
 ghost use Rattle.records.specs.Books.{Tables, tables, books_of, room_of, Stepped};
-ghost use Rattle.expected_withdrawals.specs.Expected.{plain_withdrawal, expected_of, handed_list};
+ghost use Rattle.expected_withdrawals.specs.Expected.{expected_of, handed_list};
 ghost use Rattle.withdrawals.specs.Payment.{Paid, index_below};
 
 use expected_withdrawals::{ExpectedWithdrawals, Withdrawal};
+use primitives::answers::Refusal;
 use primitives::{Scalars, Settings, ValidatorIndex, WithdrawalIndex};
+use records::queues::PendingPartialWithdrawal;
+
+// A handed list stays sixteen records and a count: the exported call hands it so, and the count may be above sixteen.
 
 // ---- the comparison
-
-fn same_withdrawal(x: Withdrawal, y: Withdrawal) -> bool
-    ensures { result ≡ same_withdrawal (plain_withdrawal x) (plain_withdrawal y) }
-{
-    if x.index.0 != y.index.0 {
-        return false;
-    }
-    if x.validator_index.0 != y.validator_index.0 {
-        return false;
-    }
-    let a = x.address;
-    let b = y.address;
-    if !records::bytes::same_address(a, b) {
-        return false;
-    }
-    x.amount.0 == y.amount.0
-}
 
 // The first n of a handed list against the expected list. A count above sixteen is never the expected one.
 pub fn same_withdrawals(list: [Withdrawal; 16], n: usize, expected: ExpectedWithdrawals) -> bool
     requires { expected.count ≤ 16 }
     ensures { result ≡ same_withdrawals (handed_list list n) (handed_list expected.list expected.count) }
 {
-    if n != expected.count {
-        return false;
-    }
-    let other = expected.list;
-    let mut k = 0;
-    while k < n {
-        let x = list[k];
-        let y = other[k];
-        if !same_withdrawal(x, y) {
-            return false;
-        }
-        k += 1;
-    }
-    true
+    n == expected.count && list[..n] == expected.list[..n]
 }
 
-pub fn withdrawals_refusal(list: [Withdrawal; 16], n: usize, expected: ExpectedWithdrawals) -> u8
+#[tactic(auto, using(crate::specs::Laws::refusal_none, crate::specs::Laws::refusal_some))]
+pub fn withdrawals_refusal(
+    list: [Withdrawal; 16],
+    n: usize,
+    expected: ExpectedWithdrawals,
+) -> Result<(), Refusal>
     requires { expected.count ≤ 16 }
     ensures { (S : rule.Settings) (b : rule.Books)
-        → expected ≡ expected_of S b → result ≡ withdrawals_refusal S b (handed_list list n) }
+        → expected ≡ expected_of S b → answer_number result ≡ withdrawals_refusal S b (handed_list list n) }
 {
     if same_withdrawals(list, n, expected) {
-        return primitives::answers::DONE;
+        return Ok(());
     }
-    primitives::answers::WITHDRAWALS_NOT_EXPECTED
+    Err(Refusal::WithdrawalsNotExpected)
 }
 
 // ---- the payment
@@ -80,13 +60,8 @@ pub fn pay_withdrawals(validators: &mut [u64], registry: usize, list: [Withdrawa
     requires known { every (withdrawal_in registry) (handed_list list n) ≡ true }
     ensures { Paid registry (handed_list list n) validators.old validators.new }
 {
-    let mut k = 0;
-    while k < n {
-        let w = list[k];
-        let i = w.validator_index;
-        let amount = w.amount;
-        records::registry::decrease_balance(validators, i, amount);
-        k += 1;
+    for w in &list[..n] {
+        records::registry::decrease_balance(validators, w.validator_index, w.amount);
     }
 }
 
@@ -98,7 +73,7 @@ fn remove_partials(partials: &mut [u64], gone: usize, left: usize)
     if gone == 0 {
         return;
     }
-    records::queues::drain_partials(partials, gone, left);
+    records::queues::drain::<PendingPartialWithdrawal>(partials, gone, left);
 }
 
 // next_withdrawal_index
@@ -107,10 +82,9 @@ pub fn next_index(scalars: Scalars, list: [Withdrawal; 16], n: usize) -> Withdra
     requires n_value { every (index_below (2 ^ 63)) (handed_list list n) ≡ true }
     ensures { (t : Tables) → result.0 ≡ next_index (books_of scalars t) (handed_list list n) }
 {
-    if n == 0 {
+    let Some(w) = list[..n].last() else {
         return scalars.next_withdrawal_index;
-    }
-    let w = list[n - 1];
+    };
     WithdrawalIndex(w.index.0 + 1)
 }
 

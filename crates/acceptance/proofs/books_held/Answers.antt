@@ -1,137 +1,100 @@
--- Each pass that fails refuses the books, and the last decides; the sum is that of the first two.
-use Rattle.std.proofs.Common.{◌≡◌, ◌≤◌, true, sym, ◌∙◌, arith, le-leb}
-use Rattle.rules.specs.Types.{BOUND}
-use Rattle.rules.specs.Acceptance.{sound_books, held}
+-- Each pass that gives none refuses the books, and the last decides; the sum is that of the first two.
+use Rattle.std.proofs.Common.{◌≡◌, refl, None, sym, ◌∙◌, arith, rules}
 use Rattle.primitives.specs.Settings.{settings_of}
-use Rattle.records.specs.Books.{tables, books_of}
+use Rattle.records.specs.Lent.{lent_tables}
 use Rattle.records.specs.Reading.{EnoughRoom, room}
-use Rattle.acceptance.specs.Tests.{scalars_within}
+use Rattle.acceptance.specs.Laws.{bounded_is, bounded_over}
 use Rattle.acceptance.specs.Sound.{ScalarsWithin, within}
 use Rattle.acceptance.specs.Books.{scalars_refused, balances_refused, held_refused, partials_refused}
 use Rattle.acceptance.specs.Books.{consolidations_decide, held_known}
-use Rattle.acceptance.specs.Held.{none_held}
+use Rattle.acceptance.specs.Held.{none_held, some_held}
 use Rattle.acceptance.proofs.books_held.Goals as goal
 
 pub returns-then-not-scalars_within : goal.returns-then-not-scalars_within
 returns-then-not-scalars_within c =
-    let S = settings_of c.args.settings in
-    let s = c.args.scalars in
-    let t = tables c.args.identities.now c.args.validators.now c.args.deposits.now
-    c.args.partials.now c.args.consolidations.now in
-    none_held S (books_of s t) _ (omega arith)
-    (scalars_refused S s t
+    let b = c.args.books.now in
+    none_held _ _
+    (scalars_refused (settings_of c.args.settings) b.scalars (lent_tables b)
     (sym c.scalars_within.ensures ∙ c.if-not-scalars_within.true))
 
-pub validators_sum-balances-requires : goal.validators_sum-balances-requires
-validators_sum-balances-requires c =
-    let S = settings_of c.args.settings in
-    let s = c.args.scalars in
-    let t = tables c.args.identities.now c.args.validators.now c.args.deposits.now
-    c.args.partials.now c.args.consolidations.now in
-    let scalars-so : scalars_within S s ≡ true = sym c.scalars_within.ensures ∙ c.if-not-scalars_within.false in
-    let counts : ScalarsWithin S s = within _ _ scalars-so in
-    let space : EnoughRoom S t = room _ _ c.requires in
+pub validators_sum-requires : goal.validators_sum-requires
+validators_sum-requires c =
+    let b = c.args.books.now in
+    let counts : ScalarsWithin (settings_of c.args.settings) b.scalars =
+    within _ _ (sym c.scalars_within.ensures ∙ c.if-not-scalars_within.false) in
+    let space : EnoughRoom (settings_of c.args.settings) (lent_tables b) = room _ _ c.requires in
     omega (arith, counts, space)
 
-pub returns-then-balances-gt-BOUND : goal.returns-then-balances-gt-BOUND
-returns-then-balances-gt-BOUND c =
-    let S = settings_of c.args.settings in
-    let s = c.args.scalars in
-    let t = tables c.args.identities.now c.args.validators.now c.args.deposits.now
-    c.args.partials.now c.args.consolidations.now in
-    let v = c.validators_sum-balances in
-    none_held S (books_of s t) _ (omega arith)
-    (balances_refused S s t v.result.0 (v.ensures t.identities) (omega arith))
+pub returns-in_err-balances : goal.returns-in_err-balances
+returns-in_err-balances c =
+    let e : c.from_residual.result ≡ None = search rules in
+    let b = c.args.books.now in
+    rw e (none_held _ _
+    (balances_refused (settings_of c.args.settings) b.scalars (lent_tables b) _ refl
+    (bounded_over (c.in_err-balances.ensures b.identities.now))))
 
-pub deposits_sum-held-requires : goal.deposits_sum-held-requires
-deposits_sum-held-requires c =
-    let S = settings_of c.args.settings in
-    let s = c.args.scalars in
-    let t = tables c.args.identities.now c.args.validators.now c.args.deposits.now
-    c.args.partials.now c.args.consolidations.now in
-    let scalars-so : scalars_within S s ≡ true = sym c.scalars_within.ensures ∙ c.if-not-scalars_within.false in
-    let counts : ScalarsWithin S s = within _ _ scalars-so in
-    let space : EnoughRoom S t = room _ _ c.requires in
-    (omega arith, omega (arith, counts, space))
+pub deposits_sum-requires : goal.deposits_sum-requires
+deposits_sum-requires c =
+    let b = c.args.books.now in
+    let counts : ScalarsWithin (settings_of c.args.settings) b.scalars =
+    within _ _ (sym c.scalars_within.ensures ∙ c.if-not-scalars_within.false) in
+    let space : EnoughRoom (settings_of c.args.settings) (lent_tables b) = room _ _ c.requires in
+    ((bounded_is (c.in_ok-balances.ensures b.identities.now)).1, omega (arith, counts, space))
 
-pub returns-then-held-gt-BOUND : goal.returns-then-held-gt-BOUND
-returns-then-held-gt-BOUND c =
-    let S = settings_of c.args.settings in
-    let s = c.args.scalars in
-    let t = tables c.args.identities.now c.args.validators.now c.args.deposits.now
-    c.args.partials.now c.args.consolidations.now in
-    let v = c.validators_sum-balances in
-    let d = c.deposits_sum-held in
-    none_held S (books_of s t) _ (omega arith)
-    (held_refused S s t v.result.0 d.result.0 (v.ensures t.identities) d.ensures
-    (omega arith))
+pub returns-in_err-held : goal.returns-in_err-held
+returns-in_err-held c =
+    let e : c.from_residual-in_err-held.result ≡ None = search rules in
+    let b = c.args.books.now in
+    rw e (none_held _ _
+    (held_refused (settings_of c.args.settings) b.scalars (lent_tables b) _ _
+    (bounded_is (c.in_ok-balances.ensures b.identities.now)).0 refl (bounded_over c.in_err-held.ensures)))
 
-pub partials_sum-amounts-requires : goal.partials_sum-amounts-requires
-partials_sum-amounts-requires c =
-    let S = settings_of c.args.settings in
-    let s = c.args.scalars in
-    let t = tables c.args.identities.now c.args.validators.now c.args.deposits.now
-    c.args.partials.now c.args.consolidations.now in
-    let scalars-so : scalars_within S s ≡ true = sym c.scalars_within.ensures ∙ c.if-not-scalars_within.false in
-    let counts : ScalarsWithin S s = within _ _ scalars-so in
-    let space : EnoughRoom S t = room _ _ c.requires in
+pub partials_sum-requires : goal.partials_sum-requires
+partials_sum-requires c =
+    let b = c.args.books.now in
+    let counts : ScalarsWithin (settings_of c.args.settings) b.scalars =
+    within _ _ (sym c.scalars_within.ensures ∙ c.if-not-scalars_within.false) in
+    let space : EnoughRoom (settings_of c.args.settings) (lent_tables b) = room _ _ c.requires in
     omega (arith, counts, space)
 
-pub returns-then-amounts-gt-BOUND : goal.returns-then-amounts-gt-BOUND
-returns-then-amounts-gt-BOUND c =
-    let S = settings_of c.args.settings in
-    let s = c.args.scalars in
-    let t = tables c.args.identities.now c.args.validators.now c.args.deposits.now
-    c.args.partials.now c.args.consolidations.now in
-    let p = c.partials_sum-amounts in
-    none_held S (books_of s t) _ (omega arith)
-    (partials_refused S s t p.result.0 p.ensures (omega arith))
+pub returns-in_err-partials_sum : goal.returns-in_err-partials_sum
+returns-in_err-partials_sum c =
+    let e : c.from_residual-in_err-partials_sum.result ≡ None = search rules in
+    let b = c.args.books.now in
+    rw e (none_held _ _
+    (partials_refused (settings_of c.args.settings) b.scalars (lent_tables b) _ refl
+    (bounded_over c.in_err-partials_sum.ensures)))
 
 pub consolidations_in-requires : goal.consolidations_in-requires
 consolidations_in-requires c =
-    let S = settings_of c.args.settings in
-    let s = c.args.scalars in
-    let t = tables c.args.identities.now c.args.validators.now c.args.deposits.now
-    c.args.partials.now c.args.consolidations.now in
-    let scalars-so : scalars_within S s ≡ true = sym c.scalars_within.ensures ∙ c.if-not-scalars_within.false in
-    let counts : ScalarsWithin S s = within _ _ scalars-so in
-    let space : EnoughRoom S t = room _ _ c.requires in
+    let b = c.args.books.now in
+    let counts : ScalarsWithin (settings_of c.args.settings) b.scalars =
+    within _ _ (sym c.scalars_within.ensures ∙ c.if-not-scalars_within.false) in
+    let space : EnoughRoom (settings_of c.args.settings) (lent_tables b) = room _ _ c.requires in
     omega (arith, counts, space)
 
 pub returns-then-not-consolidations_in : goal.returns-then-not-consolidations_in
 returns-then-not-consolidations_in c =
-    let S = settings_of c.args.settings in
-    let s = c.args.scalars in
-    let t = tables c.args.identities.now c.args.validators.now c.args.deposits.now
-    c.args.partials.now c.args.consolidations.now in
-    let scalars-so : scalars_within S s ≡ true = sym c.scalars_within.ensures ∙ c.if-not-scalars_within.false in
-    let v-small : c.validators_sum-balances.result.0 ≤ BOUND = omega (arith, c.if-balances-gt-BOUND) in
-    let d_small : c.deposits_sum-held.result.0 ≤ BOUND = omega (arith, c.if-held-gt-BOUND) in
-    let decided : c.consolidations_in.result ≡ sound_books S (books_of s t) = let p = c.partials_sum-amounts in
-    consolidations_decide S s t c.validators_sum-balances.result.0 c.deposits_sum-held.result.0
-    p.result.0 c.consolidations_in.result scalars-so (c.validators_sum-balances.ensures t.identities)
-    v-small c.deposits_sum-held.ensures d_small p.ensures (omega arith) c.consolidations_in.ensures in
-    none_held S (books_of s t) _ (omega arith)
-    (sym c.if-not-consolidations_in.true ∙ decided)
+    let b = c.args.books.now in
+    let v = bounded_is (c.in_ok-balances.ensures b.identities.now) in
+    let d = bounded_is c.in_ok-held.ensures in
+    let p = bounded_is c.in_ok-partials_sum.ensures in
+    none_held _ _
+    (sym c.if-not-consolidations_in.true
+    ∙ consolidations_decide (settings_of c.args.settings) b.scalars (lent_tables b) _ _ _ _
+    (sym c.scalars_within.ensures ∙ c.if-not-scalars_within.false) v.0 v.1 d.0 d.1 p.0 p.1
+    c.consolidations_in.ensures)
 
 pub returns : goal.returns
 returns c =
+    let b = c.args.books.now in
     let S = settings_of c.args.settings in
-    let s = c.args.scalars in
-    let t = tables c.args.identities.now c.args.validators.now c.args.deposits.now
-    c.args.partials.now c.args.consolidations.now in
-    let scalars-so : scalars_within S s ≡ true = sym c.scalars_within.ensures ∙ c.if-not-scalars_within.false in
-    let v-small : c.validators_sum-balances.result.0 ≤ BOUND = omega (arith, c.if-balances-gt-BOUND) in
-    let d_small : c.deposits_sum-held.result.0 ≤ BOUND = omega (arith, c.if-held-gt-BOUND) in
-    let decided : c.consolidations_in.result ≡ sound_books S (books_of s t) = let p = c.partials_sum-amounts in
-    consolidations_decide S s t c.validators_sum-balances.result.0 c.deposits_sum-held.result.0
-    p.result.0 c.consolidations_in.result scalars-so (c.validators_sum-balances.ensures t.identities)
-    v-small c.deposits_sum-held.ensures d_small p.ensures (omega arith) c.consolidations_in.ensures in
-    let summed : c.deposits_sum-held.result.0 ≡ held (books_of s t) = held_known S s t c.validators_sum-balances.result.0 c.deposits_sum-held.result.0
-    (c.validators_sum-balances.ensures t.identities) v-small c.deposits_sum-held.ensures d_small in
-    record {
-      sound =
-          le-leb c.deposits_sum-held.result.0 BOUND d_small
-          ∙ sym c.if-not-consolidations_in.false ∙ decided;
-      sum_of = λ k. summed;
-    }
+    let v = bounded_is (c.in_ok-balances.ensures b.identities.now) in
+    let d = bounded_is c.in_ok-held.ensures in
+    let p = bounded_is c.in_ok-partials_sum.ensures in
+    some_held _ _
+    (sym c.if-not-consolidations_in.false
+    ∙ consolidations_decide S b.scalars (lent_tables b) _ _ _ _
+    (sym c.scalars_within.ensures ∙ c.if-not-scalars_within.false) v.0 v.1 d.0 d.1 p.0 p.1
+    c.consolidations_in.ensures)
+    (held_known S b.scalars (lent_tables b) _ _ v.0 v.1 d.0 d.1)

@@ -1,5 +1,5 @@
 -- `books_file::books_file_ok` meets its contract.
-use borrow.Author.Rules.{rules}
+use Rattle.std.proofs.Common.{rules}
 use Rattle.books_file.specs.Laws.{file_judged}
 use Rattle.books_file.proofs.books_file_ok.Goals as goal
 

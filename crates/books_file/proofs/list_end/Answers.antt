@@ -1,5 +1,5 @@
 -- `books_file::list_end` meets its contract.
-use borrow.Author.Rules.{rules}
+use Rattle.std.proofs.Common.{rules}
 use Rattle.books_file.specs.Laws.{product_fits, end_fits, end_made}
 use Rattle.books_file.proofs.list_end.Goals as goal
 

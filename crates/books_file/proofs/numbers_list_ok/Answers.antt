@@ -1,5 +1,5 @@
 -- `books_file::numbers_list_ok` meets its contract.
-use borrow.Author.Rules.{rules}
+use Rattle.std.proofs.Common.{rules}
 use Rattle.books_file.specs.Laws.{product_fits, numbers_fit, list_judged}
 use Rattle.books_file.proofs.numbers_list_ok.Goals as goal
 

@@ -1,5 +1,5 @@
 -- `books_file::partials_place` meets its contract.
-use borrow.Author.Rules.{rules}
+use Rattle.std.proofs.Common.{rules}
 use Rattle.books_file.specs.Laws.{place_next}
 use Rattle.books_file.proofs.partials_place.Goals as goal
 

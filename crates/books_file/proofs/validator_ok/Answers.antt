@@ -1,5 +1,5 @@
 -- `books_file::validator_ok` meets its contract.
-use borrow.Author.Rules.{rules}
+use Rattle.std.proofs.Common.{rules}
 use Rattle.books_file.specs.Laws.{validator_judged}
 use Rattle.books_file.proofs.validator_ok.Goals as goal
 

@@ -1,5 +1,5 @@
 -- `books_file::validators_list_ok` meets its contract.
-use borrow.Author.Rules.{rules}
+use Rattle.std.proofs.Common.{rules}
 use Rattle.books_file.specs.Laws.{validators_judged}
 use Rattle.books_file.proofs.validators_list_ok.Goals as goal
 

@@ -14,14 +14,14 @@ returns-then-out-lt-MOST_PRINTED c = record {
 
 pub carry_out_files-closing-requires : goal.carry_out_files-closing-requires
 carry_out_files-closing-requires c =
-    let i = c.identities-identities in
-    let v = c.validators-validators in
-    let d = c.deposits-deposits in
-    let p = c.partials-partials in
-    let q = c.consolidations-consolidations in record {
+    let i = c.blank-identities in
+    let v = c.blank-validators in
+    let d = c.blank-deposits in
+    let p = c.blank-partials in
+    let q = c.blank-consolidations in record {
       room = program_buffers i.result v.result d.result p.result q.result i.ensures v.ensures d.ensures p.ensures
           q.ensures;
-      results_length = c.results-results.ensures;
+      results_length = c.blank-results.ensures;
     }
 
 pub returns-then-closing-ne-DONE : goal.returns-then-closing-ne-DONE
@@ -37,7 +37,7 @@ pub put_table-requires : goal.put_table-requires
 put_table-requires c =
     let x = c.carry_out_files-closing in
     let few = (x.ensures.done c.if-closing-ne-DONE.false).few in record {
-      results_hold_calls = omega (arith, few, x.auto.results, c.results-results.ensures);
+      results_hold_calls = omega (arith, few, x.auto.results, c.blank-results.ensures);
       out_holds_lines = omega (arith, few, c.if-out-lt-MOST_PRINTED.false);
     }
 

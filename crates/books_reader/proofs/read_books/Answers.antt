@@ -1,50 +1,29 @@
--- Nothing is stored before the number is 0.
-use mathlib.Core.Path.{sym, ◌∙◌}
-use Rattle.records.specs.Books.{tables, room_of}
-use Rattle.books_reader.specs.Laws.{file_good, opens, room_there, read_refused, read_done}
+-- Nothing is stored before the file is judged.
+use Rattle.std.proofs.Common.{refl, sym, ◌∙◌}
+use Rattle.primitives.specs.Answers.{refusal_not_0}
+use Rattle.books_reader.specs.Laws.{opened_good, opened_fits, read_refused, read_done}
 use Rattle.books_reader.proofs.read_books.Goals as goal
 
-pub returns-then-number-ne-DONE : goal.returns-then-number-ne-DONE
-returns-then-number-ne-DONE c =
-    let bs = c.args.file.now in
-    let lent =
-    tables c.args.identities.now c.args.validators.now c.args.deposits.now c.args.partials.now
-    c.args.consolidations.now in
-    read_refused bs lent c.judged-number.ensures c.if-number-ne-DONE.true c.refused.ensures
+pub returns-in-Err : goal.returns-in-Err
+returns-in-Err c =
+    let n = c.number.ensures in
+    read_refused _ _ (n ∙ c.in-Err.ensures) (λ z. refusal_not_0 _ (sym n ∙ z)) c.refused.ensures
 
 pub settings_at-settings-requires : goal.settings_at-settings-requires
-settings_at-settings-requires c =
-    let bs = c.args.file.now in
-    let lent =
-    tables c.args.identities.now c.args.validators.now c.args.deposits.now c.args.partials.now
-    c.args.consolidations.now in
-    let opened = opens bs (room_of lent) (sym c.judged-number.ensures ∙ c.if-number-ne-DONE.false) in
-    file_good bs opened.good
+settings_at-settings-requires c = opened_good _ _ c.in_default.ensures refl
 
 pub scalars_at-scalars-requires : goal.scalars_at-scalars-requires
-scalars_at-scalars-requires c =
-    let bs = c.args.file.now in
-    let lent =
-    tables c.args.identities.now c.args.validators.now c.args.deposits.now c.args.partials.now
-    c.args.consolidations.now in
-    let opened = opens bs (room_of lent) (sym c.judged-number.ensures ∙ c.if-number-ne-DONE.false) in
-    file_good bs opened.good
+scalars_at-scalars-requires c = opened_good _ _ c.in_default.ensures refl
 
 pub store_books-requires : goal.store_books-requires
 store_books-requires c =
-    let bs = c.args.file.now in
-    let lent =
-    tables c.args.identities.now c.args.validators.now c.args.deposits.now c.args.partials.now
-    c.args.consolidations.now in
-    let opened = opens bs (room_of lent) (sym c.judged-number.ensures ∙ c.if-number-ne-DONE.false) in
     let s = c.scalars_at-scalars.ensures in
-    record { good = file_good bs opened.good; scalars_read = s; fits = room_there bs lent opened s }
+    record {
+      good = opened_good _ _ c.in_default.ensures refl;
+      scalars_read = s;
+      fits = opened_fits _ _ c.in_default.ensures refl s;
+    }
 
 pub returns : goal.returns
 returns c =
-    let bs = c.args.file.now in
-    let lent =
-    tables c.args.identities.now c.args.validators.now c.args.deposits.now c.args.partials.now
-    c.args.consolidations.now in
-    read_done bs lent _ c.judged-number.ensures c.if-number-ne-DONE.false c.settings_at-settings.ensures
-    c.store_books.ensures
+    read_done _ _ _ c.in_default.ensures refl c.settings_at-settings.ensures c.store_books.ensures

@@ -1,5 +1,5 @@
 -- `calls_reader::amount_at` meets its contract.
-use borrow.Author.Rules.{rules}
+use Rattle.std.proofs.Common.{rules}
 use Rattle.calls_reader.specs.Fields.{amount_validator_ok, amount_amount_ok, reward_read, penalty_read}
 use Rattle.calls_reader.proofs.amount_at.Goals as goal
 

@@ -1,5 +1,5 @@
 -- `calls_reader::call_ok` meets its contract.
-use borrow.Author.Rules.{rules}
+use Rattle.std.proofs.Common.{rules}
 use Rattle.calls_reader.specs.Laws.{call_judged}
 use Rattle.calls_reader.proofs.call_ok.Goals as goal
 

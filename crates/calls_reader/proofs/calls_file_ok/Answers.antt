@@ -1,5 +1,5 @@
 -- `calls_reader::calls_file_ok` meets its contract.
-use borrow.Author.Rules.{rules}
+use Rattle.std.proofs.Common.{rules}
 use Rattle.calls_reader.specs.Laws.{file_judged}
 use Rattle.calls_reader.proofs.calls_file_ok.Goals as goal
 

@@ -1,5 +1,5 @@
 -- `calls_reader::consolidation_at` meets its contract.
-use borrow.Author.Rules.{rules}
+use Rattle.std.proofs.Common.{rules}
 use Rattle.calls_reader.specs.Fields.{consolidation_source_ok, consolidation_target_ok}
 use Rattle.calls_reader.specs.Fields.{consolidation_epoch_ok, consolidation_read}
 use Rattle.calls_reader.proofs.consolidation_at.Goals as goal

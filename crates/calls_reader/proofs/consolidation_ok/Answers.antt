@@ -1,5 +1,5 @@
 -- `calls_reader::consolidation_ok` meets its contract.
-use borrow.Author.Rules.{rules}
+use Rattle.std.proofs.Common.{rules}
 use Rattle.calls_reader.specs.Laws.{consolidation_judged}
 use Rattle.calls_reader.proofs.consolidation_ok.Goals as goal
 

@@ -1,5 +1,5 @@
 -- `calls_reader::exit_at` meets its contract.
-use borrow.Author.Rules.{rules}
+use Rattle.std.proofs.Common.{rules}
 use Rattle.calls_reader.specs.Fields.{exit_validator_ok, exit_epoch_ok, exit_read}
 use Rattle.calls_reader.proofs.exit_at.Goals as goal
 

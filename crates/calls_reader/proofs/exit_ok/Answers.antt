@@ -1,5 +1,5 @@
 -- `calls_reader::exit_ok` meets its contract.
-use borrow.Author.Rules.{rules}
+use Rattle.std.proofs.Common.{rules}
 use Rattle.calls_reader.specs.Laws.{exit_judged}
 use Rattle.calls_reader.proofs.exit_ok.Goals as goal
 

@@ -1,5 +1,5 @@
 -- `calls_reader::fields_ok` meets its contract.
-use borrow.Author.Rules.{rules}
+use Rattle.std.proofs.Common.{rules}
 use Rattle.calls_reader.specs.Laws.{fields_1, fields_2, fields_3, fields_4, fields_5, fields_6}
 use Rattle.calls_reader.specs.Laws.{fields_7, fields_8, fields_none}
 use Rattle.calls_reader.proofs.fields_ok.Goals as goal

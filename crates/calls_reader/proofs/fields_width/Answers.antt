@@ -1,5 +1,5 @@
 -- `calls_reader::fields_width` meets its contract.
-use borrow.Author.Rules.{rules}
+use Rattle.std.proofs.Common.{rules}
 use Rattle.calls_reader.specs.Laws.{width_1, width_2, width_3, width_4, width_5, width_6}
 use Rattle.calls_reader.specs.Laws.{withdrawals_width, width_none}
 use Rattle.calls_reader.proofs.fields_width.Goals as goal

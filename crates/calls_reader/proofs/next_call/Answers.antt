@@ -1,5 +1,5 @@
 -- `calls_reader::next_call` meets its contract.
-use borrow.Author.Rules.{rules}
+use Rattle.std.proofs.Common.{rules}
 use Rattle.calls_reader.specs.Laws.{next_fits, next_found, next_long}
 use Rattle.calls_reader.proofs.next_call.Goals as goal
 

@@ -1,14 +1,14 @@
 -- `calls_reader::receipt_at` meets its contract.
-use borrow.Author.Rules.{rules}
+use Rattle.std.proofs.Common.{rules}
 use Rattle.calls_reader.specs.Fields.{receipt_key_ok, receipt_credentials_ok, receipt_amount_ok}
 use Rattle.calls_reader.specs.Fields.{receipt_index_ok, receipt_read}
 use Rattle.calls_reader.proofs.receipt_at.Goals as goal
 
-pub key_at-public_key-requires : goal.key_at-public_key-requires
-key_at-public_key-requires c = search (receipt_key_ok, rules)
+pub field_at-requires : goal.field_at-requires
+field_at-requires c = search (receipt_key_ok, rules)
 
-pub credentials_at-withdrawal_credentials-requires : goal.credentials_at-withdrawal_credentials-requires
-credentials_at-withdrawal_credentials-requires c = search (receipt_credentials_ok, rules)
+pub field_at-requires-2 : goal.field_at-requires-2
+field_at-requires-2 c = search (receipt_credentials_ok, rules)
 
 pub number_at-requires : goal.number_at-requires
 number_at-requires c = search (receipt_amount_ok, receipt_index_ok, rules)

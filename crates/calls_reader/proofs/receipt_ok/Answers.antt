@@ -1,5 +1,5 @@
 -- `calls_reader::receipt_ok` meets its contract.
-use borrow.Author.Rules.{rules}
+use Rattle.std.proofs.Common.{rules}
 use Rattle.calls_reader.specs.Laws.{receipt_judged}
 use Rattle.calls_reader.proofs.receipt_ok.Goals as goal
 

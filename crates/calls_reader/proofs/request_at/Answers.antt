@@ -1,13 +1,13 @@
 -- `calls_reader::request_at` meets its contract.
-use borrow.Author.Rules.{rules}
+use Rattle.std.proofs.Common.{rules}
 use Rattle.calls_reader.specs.Fields.{request_address_ok, request_key_ok, request_amount_ok, request_read}
 use Rattle.calls_reader.proofs.request_at.Goals as goal
 
-pub address_at-source_address-requires : goal.address_at-source_address-requires
-address_at-source_address-requires c = search (request_address_ok, rules)
+pub field_at-requires : goal.field_at-requires
+field_at-requires c = search (request_address_ok, rules)
 
-pub key_at-public_key-requires : goal.key_at-public_key-requires
-key_at-public_key-requires c = search (request_key_ok, rules)
+pub field_at-requires-2 : goal.field_at-requires-2
+field_at-requires-2 c = search (request_key_ok, rules)
 
 pub number_at-requires : goal.number_at-requires
 number_at-requires c = search (request_amount_ok, rules)

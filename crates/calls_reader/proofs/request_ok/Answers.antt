@@ -1,5 +1,5 @@
 -- `calls_reader::request_ok` meets its contract.
-use borrow.Author.Rules.{rules}
+use Rattle.std.proofs.Common.{rules}
 use Rattle.calls_reader.specs.Laws.{request_judged}
 use Rattle.calls_reader.proofs.request_ok.Goals as goal
 

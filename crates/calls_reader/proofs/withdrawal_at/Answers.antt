@@ -1,11 +1,11 @@
 -- `calls_reader::withdrawal_at` meets its contract.
-use borrow.Author.Rules.{rules}
+use Rattle.std.proofs.Common.{rules}
 use Rattle.calls_reader.specs.Fields.{withdrawal_address_ok, withdrawal_index_ok, withdrawal_validator_ok}
 use Rattle.calls_reader.specs.Fields.{withdrawal_amount_ok, withdrawal_read}
 use Rattle.calls_reader.proofs.withdrawal_at.Goals as goal
 
-pub address_at-address-requires : goal.address_at-address-requires
-address_at-address-requires c = search (withdrawal_address_ok, rules)
+pub field_at-requires : goal.field_at-requires
+field_at-requires c = search (withdrawal_address_ok, rules)
 
 pub number_at-requires : goal.number_at-requires
 number_at-requires c = search (withdrawal_index_ok, rules)

@@ -1,5 +1,5 @@
 -- `calls_reader::withdrawal_ok` meets its contract.
-use borrow.Author.Rules.{rules}
+use Rattle.std.proofs.Common.{rules}
 use Rattle.calls_reader.specs.Laws.{withdrawal_judged}
 use Rattle.calls_reader.proofs.withdrawal_ok.Goals as goal
 

@@ -1,12 +1,11 @@
 -- `calls_reader::withdrawals_at` meets its contract.
-use borrow.Author.Rules.{rules}
-use Prim.Native.Nat.{◌<◌}
+use Rattle.std.proofs.Common.{◌<◌, rules}
 use Rattle.calls_reader.specs.Fields.{count_most, withdrawal_good, listed_none, listed_more}
 use Rattle.calls_reader.specs.Fields.{list_blank, withdrawals_read}
 use Rattle.calls_reader.proofs.withdrawals_at.Goals as goal
 
 pub loop-i-init : goal.loop-i-init
-loop-i-init c = (search rules, (search (count_most, rules), search (listed_none, rules)))
+loop-i-init c = (search (count_most, rules), search (listed_none, rules))
 
 pub withdrawal_at-requires : goal.withdrawal_at-requires
 withdrawal_at-requires c = record { k_bound = search rules; well_formed = search (withdrawal_good, rules) }
@@ -15,7 +14,7 @@ pub loop-i-preserved : goal.loop-i-preserved
 loop-i-preserved c =
     let loop = c.loop-i in
     let l : loop.i < 16 = search rules in
-    (search rules, (search rules, listed_more _ _ _ _ _ l loop.invariant.1.1 c.withdrawal_at.ensures))
+    (search rules, listed_more _ _ _ _ _ l loop.invariant.1 c.withdrawal_at.ensures)
 
 pub returns : goal.returns
 returns c = (search (withdrawals_read, rules), search (list_blank, rules))

@@ -1,5 +1,5 @@
 -- `calls_reader::withdrawals_ok` meets its contract.
-use borrow.Author.Rules.{rules}
+use Rattle.std.proofs.Common.{rules}
 use Rattle.calls_reader.specs.Laws.{withdrawals_judged}
 use Rattle.calls_reader.proofs.withdrawals_ok.Goals as goal
 

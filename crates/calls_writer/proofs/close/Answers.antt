@@ -6,4 +6,4 @@ pub returns : goal.returns
 returns c =
     let stored =
     close_made _ _ _ _ _ c.calls_count-count.ensures c.put_count.ensures c.put_end.ensures in
-    (stored, search rules, search rules)
+    (stored, search rules)

@@ -3,10 +3,10 @@ use Rattle.calls_writer.specs.Listed.{listed_none, listed_more, listed_done}
 use Rattle.calls_writer.proofs.put_list.Goals as goal
 
 pub loop-i-init : goal.loop-i-init
-loop-i-init c = (search rules, search rules, listed_none _ _ _)
+loop-i-init c = listed_none _ _ _
 
 pub loop-i-preserved : goal.loop-i-preserved
-loop-i-preserved c = (search rules, search rules, search (listed_more, rules))
+loop-i-preserved c = search (listed_more, rules)
 
 pub returns : goal.returns
 returns c = search (listed_done, rules)

@@ -1,15 +1,7 @@
 use mathlib.Core.Path.{◌≡◌}
-use Prim.Native.Nat.{◌≤◌, ◌-◌}
-use lib.ListN.{length}
 use Rattle.file_format.specs.PutLaws.{put}
 use Rattle.calls_writer.specs.Listed.{first_listed}
 use Rattle.calls_writer.proofs.put_list.Given as goal
 
 abbrev pub invariant-loop-i : goal.invariant-loop-i
-invariant-loop-i l =
-    (l.i ≤ l.count)
-    × (length l.out ≡ length l.initial.out)
-    × (l.out ≡ put l.initial.out l.k (first_listed l.list l.i))
-
-abbrev pub decreases-loop-i : goal.decreases-loop-i
-decreases-loop-i l = l.count - l.i
+invariant-loop-i l = l.out ≡ put l.initial.out l.k (first_listed l.list l.i)

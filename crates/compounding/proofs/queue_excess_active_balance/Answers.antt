@@ -2,7 +2,6 @@ use mathlib.Core.Path.{◌≡◌}
 use Prim.Native.Nat.{◌<◌, ◌≤◌}
 use native.Mathlib.Nat.{add-zero}
 use native.Mathlib.Omega.{arith}
-use borrow.Author.Rules.{rules}
 use Rattle.primitives.specs.Settings.{settings_of}
 use Rattle.records.specs.Layout.{balance_at}
 use Rattle.compounding.specs.Laws.{entries_low, entries_high}
@@ -20,8 +19,8 @@ returns-then-balance-least c =
       value = rw (entries_low S.min_activation_balance balance low, add-zero a.scalars.deposits);
     }
 
-pub push_deposit-requires : goal.push_deposit-requires
-push_deposit-requires c =
+pub push-requires : goal.push-requires
+push-requires c =
     let a =
     c.args in
     let balance = balance_at a.validators.now a.i.0 in
@@ -44,6 +43,6 @@ returns c =
       by_index = queued S a.i.0 a.scalars a.validators.now a.deposits.now
           c.requires.i_lt_validators.0 high _ _
           c.set_balance.ensures
-          (rw read at c.push_deposit.ensures);
+          (rw read at c.push.ensures);
       value = rw (entries_high S.min_activation_balance balance high);
     }

@@ -46,8 +46,8 @@ returns-then-withdrawable-gt-BOUND c =
     (omega (arith, c.withdrawable_epoch-withdrawable.ensures, c.if-withdrawable-gt-BOUND.true)))
     (λ z. omega arith)
 
-pub push_consolidation-requires : goal.push_consolidation-requires
-push_consolidation-requires c = c.requires.known_source_and_room.1
+pub push-requires : goal.push-requires
+push-requires c = c.requires.known_source_and_room.1
 
 pub returns : goal.returns
 returns c =
@@ -67,7 +67,7 @@ returns c =
     (omega (arith, last, c.if-withdrawable-gt-BOUND.false)))
     (consolidation_stepped S a.scalars a.source.0 a.target.0 x a.validators.now _
     a.consolidations.now _ ids ds ps c.requires.known_source_and_room.0 (rw last at c.set_exit.ensures)
-    c.push_consolidation.ensures
+    c.push.ensures
     (c.with_consolidations-queued.ensures
     ∙ ap (λ (s : Scalars). scalars.with_consolidations s (a.scalars.consolidations + 1))
     c.with_consolidation_churn-charged.ensures)

@@ -65,9 +65,9 @@ returns-then-not-has_execution_withdrawal_credential-2 c =
     (fails _ _ (ap not
     (sym c.has_execution_withdrawal_credential-2.ensures ∙ c.if-not-has_execution_withdrawal_credential-2.true)))))))))
 
-pub returns-then-not-same_address : goal.returns-then-not-same_address
+pub returns-then-ne : goal.returns-then-ne
 unfolding pair_refusal
-returns-then-not-same_address c =
+returns-then-ne c =
     (passes _ _ (ap not (sym c.is_active_validator.ensures ∙ c.if-not-is_active_validator.false))
     (passes _ _ (ap not (sym c.is_active_validator-2.ensures ∙ c.if-not-is_active_validator-2.false))
     (passes _ _ (agrees _ _ c.if-source-ne-FAR_FUTURE_EPOCH.false)
@@ -77,9 +77,10 @@ returns-then-not-same_address c =
     (sym c.has_execution_withdrawal_credential.ensures ∙ c.if-not-has_execution_withdrawal_credential.false))
     (passes _ _ (ap not
     (sym c.has_execution_withdrawal_credential-2.ensures ∙ c.if-not-has_execution_withdrawal_credential-2.false))
-    (fails _ _ (ap not (sym (c.same_address.ensures
-    ∙ ap₂ same_bytes c.withdrawal_address-source_address.ensures c.withdrawal_address-target_address.ensures)
-    ∙ c.if-not-same_address.true))))))))))
+    (fails _ _ (sym (c.ne.ensures
+    ∙ ap₂ (λ x y. not (same_bytes x y)) c.withdrawal_address-source_address.ensures
+    c.withdrawal_address-target_address.ensures)
+    ∙ c.if-ne.true)))))))))
 
 pub returns-then-not-valid : goal.returns-then-not-valid
 unfolding pair_refusal
@@ -93,9 +94,10 @@ returns-then-not-valid c =
     (sym c.has_execution_withdrawal_credential.ensures ∙ c.if-not-has_execution_withdrawal_credential.false))
     (passes _ _ (ap not
     (sym c.has_execution_withdrawal_credential-2.ensures ∙ c.if-not-has_execution_withdrawal_credential-2.false))
-    (passes _ _ (ap not (sym (c.same_address.ensures
-    ∙ ap₂ same_bytes c.withdrawal_address-source_address.ensures c.withdrawal_address-target_address.ensures)
-    ∙ c.if-not-same_address.false))
+    (passes _ _ (sym (c.ne.ensures
+    ∙ ap₂ (λ x y. not (same_bytes x y)) c.withdrawal_address-source_address.ensures
+    c.withdrawal_address-target_address.ensures)
+    ∙ c.if-ne.false)
     (fails _ _ (ap not c.if-not-valid.true))))))))))
 
 pub returns : goal.returns
@@ -110,8 +112,9 @@ returns c =
     (sym c.has_execution_withdrawal_credential.ensures ∙ c.if-not-has_execution_withdrawal_credential.false))
     (passes _ _ (ap not
     (sym c.has_execution_withdrawal_credential-2.ensures ∙ c.if-not-has_execution_withdrawal_credential-2.false))
-    (passes _ _ (ap not (sym (c.same_address.ensures
-    ∙ ap₂ same_bytes c.withdrawal_address-source_address.ensures c.withdrawal_address-target_address.ensures)
-    ∙ c.if-not-same_address.false))
+    (passes _ _ (sym (c.ne.ensures
+    ∙ ap₂ (λ x y. not (same_bytes x y)) c.withdrawal_address-source_address.ensures
+    c.withdrawal_address-target_address.ensures)
+    ∙ c.if-ne.false)
     (passes _ _ (ap not c.if-not-valid.false)
     refl)))))))))

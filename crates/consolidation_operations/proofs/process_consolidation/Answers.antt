@@ -1,4 +1,5 @@
-use mathlib.Core.Path.{refl, sym, ◌∙◌}
+use Rattle.std.proofs.Common.{Err, refl, rules, sym, ◌≡◌}
+use Rattle.primitives.specs.Answers.{refusal_not_0}
 use Prim.Native.Nat.{◌<◌}
 use native.Mathlib.Omega.{arith}
 use Rattle.rules.specs.Calls.{own_refusal, result, consolidation}
@@ -24,8 +25,8 @@ get_consolidation_churn_limit-churn-requires c =
       registry = registry_ready S c.args.scalars held f.settings f.room f.books;
     }
 
-pub consolidation_refusal-number-requires : goal.consolidation_refusal-number-requires
-consolidation_refusal-number-requires c =
+pub consolidation_refusal-requires : goal.consolidation_refusal-requires
+consolidation_refusal-requires c =
     let held =
     tables c.args.identities.now c.args.validators.now c.args.deposits.now c.args.partials.now
     c.args.consolidations.now in
@@ -37,16 +38,19 @@ consolidation_refusal-number-requires c =
         identities_ready S a.scalars held f.settings f.room f.books,
         (registry_ready S a.scalars held f.settings f.room f.books).fit,
       );
-      churn_is = λ ds ps cs. c.get_consolidation_churn_limit-churn.ensures a.identities.now ds ps cs;
+      churn_is = c.get_consolidation_churn_limit-churn.ensures a.identities.now a.deposits.now a.partials.now
+          a.consolidations.now;
     }
 
-pub returns-then-number-ne-DONE : goal.returns-then-number-ne-DONE
+pub returns-in_err-consolidation_refusal : goal.returns-in_err-consolidation_refusal
 unfolding own_refusal
-returns-then-number-ne-DONE c =
+returns-in_err-consolidation_refusal c =
+    let e : c.from_residual.result ≡ Err c.in_err-consolidation_refusal.field-0.0 = search rules in
+    rw e (
     let a = c.args in
     own_refused _ _ _ _ _ c.requires
-    (c.consolidation_refusal-number.ensures a.deposits.now a.partials.now a.consolidations.now)
-    c.if-number-ne-DONE.true
+    (c.in_err-consolidation_refusal.ensures)
+    (refusal_not_0 _))
 
 pub consolidation_within_bound-requires : goal.consolidation_within_bound-requires
 consolidation_within_bound-requires c =
@@ -59,8 +63,7 @@ consolidation_within_bound-requires c =
     let churn = c.get_consolidation_churn_limit-churn.ensures in
     let allowed =
     consolidation_allowed S a.scalars held a.source.0 a.target.0 a.epoch.0 a.valid
-    (sym (c.consolidation_refusal-number.ensures a.deposits.now a.partials.now a.consolidations.now)
-    ∙ c.if-number-ne-DONE.false) in
+    (sym (c.in_ok-consolidation_refusal.ensures)) in
     let some : 0 < c.get_consolidation_churn_limit-churn.result.0 =
     omega (
       arith,
@@ -84,8 +87,7 @@ returns c =
     let f = facts (settings_of c.args.settings) c.args.scalars held c.requires in
     let a = c.args in
     judged_called {op = consolidation a.source.0 a.target.0 a.epoch.0 a.valid} c.requires
-    (sym (c.consolidation_refusal-number.ensures a.deposits.now a.partials.now a.consolidations.now)
-    ∙ c.if-number-ne-DONE.false)
+    (sym (c.in_ok-consolidation_refusal.ensures))
     (judged_as _ refl
     (c.consolidation_within_bound.ensures a.identities.now a.deposits.now a.partials.now
     f.books))

@@ -1,4 +1,5 @@
-use mathlib.Core.Path.{refl, sym, ◌∙◌}
+use Rattle.std.proofs.Common.{◌≡◌, refl, sym, Err, rules}
+use Rattle.primitives.specs.Answers.{refusal_not_0}
 use Rattle.rules.specs.BlockProcessing.{process_voluntary_exit}
 use Rattle.rules.specs.Calls.{own_refusal, result, voluntary_exit}
 use Rattle.rule_laws.specs.Accepted.{settings_sound_so}
@@ -11,8 +12,8 @@ use Rattle.call_answers.specs.Answers.{judged_called, judged_as}
 use Rattle.exit_operations.specs.Exits.{exit_allowed}
 use Rattle.exit_operations.proofs.process_voluntary_exit.Goals as goal
 
-pub voluntary_exit_refusal-number-requires : goal.voluntary_exit_refusal-number-requires
-voluntary_exit_refusal-number-requires c =
+pub voluntary_exit_refusal-requires : goal.voluntary_exit_refusal-requires
+voluntary_exit_refusal-requires c =
     let held =
     tables c.args.identities.now c.args.validators.now c.args.deposits.now c.args.partials.now
     c.args.consolidations.now in
@@ -27,12 +28,11 @@ voluntary_exit_refusal-number-requires c =
       partials = partials_ready S s held f.settings f.room f.books;
     }
 
-pub returns-then-number-ne-DONE : goal.returns-then-number-ne-DONE
+pub returns-in_err-voluntary_exit_refusal : goal.returns-in_err-voluntary_exit_refusal
 unfolding own_refusal
-returns-then-number-ne-DONE c =
-    own_refused _ _ _ _ _ c.requires
-    (c.voluntary_exit_refusal-number.ensures c.args.deposits.now c.args.consolidations.now)
-    c.if-number-ne-DONE.true
+returns-in_err-voluntary_exit_refusal c =
+    let e : c.from_residual.result ≡ Err c.in_err-voluntary_exit_refusal.field-0.0 = search rules in
+    rw e (own_refused _ _ _ _ _ c.requires (c.in_err-voluntary_exit_refusal.ensures) (refusal_not_0 _))
 
 pub exit_within_bound-requires : goal.exit_within_bound-requires
 exit_within_bound-requires c =
@@ -48,8 +48,7 @@ exit_within_bound-requires c =
       accounts = accounts_ready S a.scalars held f.settings f.room f.books;
       not_begun =
           exit_allowed S a.scalars held a.i.0 a.epoch.0 a.valid
-          (sym (c.voluntary_exit_refusal-number.ensures a.deposits.now a.consolidations.now)
-          ∙ c.if-number-ne-DONE.false);
+          (sym (c.in_ok-voluntary_exit_refusal.ensures));
     }
 
 pub returns : goal.returns
@@ -61,8 +60,7 @@ returns c =
     let f = facts (settings_of c.args.settings) c.args.scalars held c.requires in
     let a = c.args in
     judged_called {op = voluntary_exit a.i.0 a.epoch.0 a.valid} c.requires
-    (sym (c.voluntary_exit_refusal-number.ensures a.deposits.now a.consolidations.now)
-    ∙ c.if-number-ne-DONE.false)
+    (sym (c.in_ok-voluntary_exit_refusal.ensures))
     (judged_as _ refl
     (c.exit_within_bound.ensures a.identities.now a.deposits.now a.partials.now
     a.consolidations.now f.books))

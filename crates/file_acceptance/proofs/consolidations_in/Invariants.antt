@@ -1,6 +1,5 @@
 -- The loop keeps whether every consolidation that is left passes.
 use mathlib.Core.Path.{◌≡◌}
-use Prim.Native.Nat.{◌-◌, ◌≤◌}
 use lib.ListN.{drop}
 use Rattle.lists.specs.Base.{every}
 use Rattle.rules.specs.Acceptance.{consolidation_in}
@@ -11,9 +10,5 @@ use Rattle.file_acceptance.proofs.consolidations_in.Given as goal
 
 abbrev pub invariant-loop-i : goal.invariant-loop-i
 invariant-loop-i l =
-    (l.i ≤ l.m)
-    × (every (consolidation_in l.n) (drop l.i (records_from consolidation 6 l.k l.m (words l.file)))
-    ≡ every (consolidation_in l.n) (records_from consolidation 6 l.k l.m (words l.file)))
-
-abbrev pub decreases-loop-i : goal.decreases-loop-i
-decreases-loop-i l = l.m - l.i
+    every (consolidation_in l.n) (drop l.i (records_from consolidation 6 l.k l.m (words l.file)))
+    ≡ every (consolidation_in l.n) (records_from consolidation 6 l.k l.m (words l.file))

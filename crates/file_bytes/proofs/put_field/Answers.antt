@@ -1,81 +1,69 @@
 -- `file_bytes::put_field` meets its contract.
-use mathlib.Core.Path.{◌≡◌}
-use Prim.Native.Nat.{ℕ, ◌+◌, ◌*◌, ◌/◌, ◌<◌}
-use native.Mathlib.Omega.{arith}
-use lib.ListN.{length, get_or, drop, length-set}
+use Rattle.std.proofs.Common.{◌≡◌, ℕ, ◌+◌, ◌-◌, ◌*◌, ◌/◌, ◌%◌, ◌<◌, length, take, drop, get_or, ◌∙◌, arith}
 use Rattle.file_format.specs.Words.{words}
 use Rattle.file_format.specs.Fields.{field}
-use Rattle.file_bytes.specs.Laws.{field_inside, Put, put_first, put_second}
+use Rattle.file_bytes.specs.Laws.{field_size, field_inside, word_bytes, put_more, put_all}
 use Rattle.file_bytes.proofs.put_field.Goals as goal
 
-pub returns-then-left-eq0 : goal.returns-then-left-eq0
-returns-then-left-eq0 c =
-    let n = c.args.n in
-    let q : n / 3 * 3 ≡ n = omega arith in
-    rw q at c.put_triples.ensures
+pub overflow_add-k : goal.overflow_add-k
+overflow_add-k c =
+    let a = c.args in
+    omega (arith, field_inside a.file.now a.k (length a.bytes.now) c.requires c.loop-i.i (omega arith))
 
-pub overflow_add-last : goal.overflow_add-last
-overflow_add-last c =
-    let inside : c.args.k + c.args.n / 3 < length c.args.file.now / 4 = let a = c.args in
-    field_inside a.file.now a.k a.n c.requires.well_formed (a.n / 3) (omega arith) in
-    omega (arith, inside)
+pub three_bytes-requires : goal.three_bytes-requires
+three_bytes-requires c =
+    let a = c.args in
+    field_inside a.file.now a.k (length a.bytes.now) c.requires c.loop-i.i (omega arith)
 
-pub overflow_mul-last : goal.overflow_mul-last
-overflow_mul-last c =
-    let inside : c.args.k + c.args.n / 3 < length c.args.file.now / 4 = let a = c.args in
-    field_inside a.file.now a.k a.n c.requires.well_formed (a.n / 3) (omega arith) in
-    omega (arith, inside)
-
-pub overflow_add-bytes : goal.overflow_add-bytes
-overflow_add-bytes c =
-    let inside : c.args.k + c.args.n / 3 < length c.args.file.now / 4 = let a = c.args in
-    field_inside a.file.now a.k a.n c.requires.well_formed (a.n / 3) (omega arith) in
-    omega (arith, inside)
-
-pub bounds-file-last : goal.bounds-file-last
-bounds-file-last c =
-    let inside : c.args.k + c.args.n / 3 < length c.args.file.now / 4 = let a = c.args in
-    field_inside a.file.now a.k a.n c.requires.well_formed (a.n / 3) (omega arith) in
-    omega (arith, inside)
-
-pub returns-then-left-eq1 : goal.returns-then-left-eq1
-returns-then-left-eq1 c =
+pub loop-i-preserved : goal.loop-i-preserved
+loop-i-preserved c =
     let a = c.args in
     let bs = a.file.now in
-    let put = c.put_triples in
-    let small : (q : ℕ) → get_or bs q 0 < 256 = λ q. omega (arith, c.shared_slice_known-2-1.given q) in
-    let full : Put a.bytes.now a.at ((field a.n).value (drop a.k (words bs))) (a.n / 3 * 3) _ =
-    record { size = put.auto.bytes; bytes = put.ensures } in
-    let one = put_first bs a.k a.n c.requires.well_formed (a.n / 3) (omega arith) small c.requires.n_in_bounds full in
-    let q : a.n / 3 * 3 + 1 ≡ a.n = omega arith in
-    rw q at one.bytes
+    let l = a.bytes.now in
+    let i = c.loop-i.i in
+    let small : (q : ℕ) → get_or bs q 0 < 256 = λ q. omega (arith, c.type_inv.file q) in
+    let three = word_bytes bs a.k (length l) c.requires i (omega arith) small 3 (omega arith) (omega arith) in
+    let long = field_size bs a.k (length l) c.requires in
+    let w : i * 3 + 3 - i * 3 ≡ 3 = omega arith in
+    rw w
+    (put_more l ((field (length l)).value (drop a.k (words bs))) _ _ (i * 3) 3 ((i + 1) * 3) (omega (arith, long))
+    c.loop-i.invariant (c.copy_from_slice.ensures.after ∙ c.three_bytes.ensures ∙ three) (omega arith))
 
-pub overflow_add-bytes-2 : goal.overflow_add-bytes-2
-overflow_add-bytes-2 c =
-    let inside : c.args.k + c.args.n / 3 < length c.args.file.now / 4 = let a = c.args in
-    field_inside a.file.now a.k a.n c.requires.well_formed (a.n / 3) (omega arith) in
-    omega (arith, inside)
+pub overflow_add-k-then-left-gt0 : goal.overflow_add-k-then-left-gt0
+overflow_add-k-then-left-gt0 c =
+    let a = c.args in
+    let n = length a.bytes.now in
+    omega (arith, field_inside a.file.now a.k n c.requires (n / 3) (omega arith))
 
-pub bounds-file-last-2 : goal.bounds-file-last-2
-bounds-file-last-2 c =
-    let inside : c.args.k + c.args.n / 3 < length c.args.file.now / 4 = let a = c.args in
-    field_inside a.file.now a.k a.n c.requires.well_formed (a.n / 3) (omega arith) in
-    omega (arith, inside)
+pub three_bytes-last-requires : goal.three_bytes-last-requires
+three_bytes-last-requires c =
+    let a = c.args in
+    let n = length a.bytes.now in
+    field_inside a.file.now a.k n c.requires (n / 3) (omega arith)
 
-pub bounds-bytes-end-2 : goal.bounds-bytes-end-2
-bounds-bytes-end-2 c = simp length-set (omega (arith, c.put_triples.auto.bytes))
-
-pub returns : goal.returns
-returns c =
+pub returns-then-left-gt0 : goal.returns-then-left-gt0
+returns-then-left-gt0 c =
     let a = c.args in
     let bs = a.file.now in
-    let put = c.put_triples in
-    let small : (q : ℕ) → get_or bs q 0 < 256 = λ q. omega (arith, c.shared_slice_known-3-1.given q) in
-    let full : Put a.bytes.now a.at ((field a.n).value (drop a.k (words bs))) (a.n / 3 * 3) _ =
-    record { size = put.auto.bytes; bytes = put.ensures } in
-    let e = c.requires.well_formed in
-    let h : a.n / 3 * 3 < a.n = omega arith in
-    let one = put_first bs a.k a.n e (a.n / 3) h small c.requires.n_in_bounds full in
-    let two = put_second bs a.k a.n e (a.n / 3) h small c.requires.n_in_bounds (omega arith) one in
-    let q : a.n / 3 * 3 + 2 ≡ a.n = omega arith in
-    rw q at two.bytes
+    let l = a.bytes.now in
+    let m = c.loop-i.bytes in
+    let n = length l in
+    let v = (field n).value (drop a.k (words bs)) in
+    let full = n / 3 * 3 in
+    let left = length m - full in
+    let long = field_size bs a.k n c.requires in
+    let done : c.loop-i.i ≡ n / 3 = omega arith in
+    let small : (q : ℕ) → get_or bs q 0 < 256 = λ q. omega (arith, c.type_inv.file q) in
+    let last = word_bytes bs a.k n c.requires (n / 3) (omega arith) small left (omega arith) (omega arith) in
+    let few : length m % 3 ≡ left = omega arith in
+    let put = c.copy_from_slice-then-left-gt0.ensures.after ∙ (λ j. take (few j) (c.three_bytes-last.ensures j)) ∙ last in
+    put_all l v _ n (omega arith) (omega (arith, long))
+    (put_more l v m _ full left n (omega (arith, long)) (rw done at c.loop-i.invariant) put (omega arith))
+
+pub returns-else-left-gt0 : goal.returns-else-left-gt0
+returns-else-left-gt0 c =
+    let a = c.args in
+    let n = length a.bytes.now in
+    let long = field_size a.file.now a.k n c.requires in
+    put_all a.bytes.now ((field n).value (drop a.k (words a.file.now))) c.loop-i.bytes (c.loop-i.i * 3) (omega arith)
+    (omega (arith, long)) c.loop-i.invariant

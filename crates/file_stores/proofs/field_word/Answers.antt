@@ -1,4 +1,4 @@
-use borrow.Author.Rules.{rules}
+use Rattle.std.proofs.Common.{rules}
 use Rattle.file_stores.specs.Laws.{field_word_made}
 use Rattle.file_stores.proofs.field_word.Goals as goal
 

@@ -1,4 +1,4 @@
-use borrow.Author.Rules.{rules}
+use Rattle.std.proofs.Common.{rules}
 use Rattle.file_stores.specs.Laws.{flag_put}
 use Rattle.file_stores.proofs.put_flag.Goals as goal
 

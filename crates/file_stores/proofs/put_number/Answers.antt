@@ -1,5 +1,5 @@
 use Rattle.file_stores.specs.Laws.{number_put}
-use borrow.Author.Rules.{rules}
+use Rattle.std.proofs.Common.{rules}
 use Rattle.file_stores.proofs.put_number.Goals as goal
 
 pub returns : goal.returns

@@ -22,14 +22,11 @@ move_active_balance-requires c =
           (s.ensures.by_index_2 [] []);
     }
 
-pub returns : goal.returns
-returns c =
+pub returns-clause-stepped : goal.returns-clause-stepped
+returns-clause-stepped c =
     let a = c.args in
     let s = c.switch_to_compounding_validator-after in
-    record {
-      stepped = λ ps cs. consolidated (settings_of a.settings) a.c a.scalars s.result
-          (tables a.identities.now a.validators.now a.deposits.now ps cs)
-          (tables s.new.identities s.new.validators s.new.deposits ps cs) _ (s.ensures.by_index_2 ps cs)
-          (c.move_active_balance.ensures _ ps cs);
-      deposits_counted = s.ensures.by_index_3;
-    }
+    λ ps cs. consolidated (settings_of a.settings) a.c a.scalars s.result
+    (tables a.identities.now a.validators.now a.deposits.now ps cs)
+    (tables s.new.identities s.new.validators s.new.deposits ps cs) _ (s.ensures.by_index_2 ps cs)
+    (c.move_active_balance.ensures _ ps cs)

@@ -1,4 +1,3 @@
-use Prim.Native.Nat.{◌-◌}
 use Rattle.primitives.specs.Settings.{settings_of}
 use Rattle.records.specs.Books.{tables}
 use Rattle.pending_consolidations.proofs.ConsolidationStep.{Consolidating}
@@ -9,6 +8,3 @@ invariant-loop-i l =
     Consolidating (settings_of l.settings)
     l.initial.after (tables l.initial.identities l.initial.validators l.initial.deposits l.partials l.consolidations)
     l.after (tables l.identities l.validators l.deposits l.partials l.consolidations) l.i
-
-abbrev pub decreases-loop-i : goal.decreases-loop-i
-decreases-loop-i l = l.m - l.i

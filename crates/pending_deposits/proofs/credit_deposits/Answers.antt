@@ -10,9 +10,9 @@ pub increase_balance-requires : goal.increase_balance-requires
 increase_balance-requires c =
     let l = c.loop-i in
     let known = c.requires.known in
-    let read = c.deposit_at-deposit.result in
-    let index = index_known l.invariant c.loop-i-test.true read c.deposit_at-deposit.ensures known in
-    let balance = balance_small l.invariant c.loop-i-test.true read c.deposit_at-deposit.ensures known in
+    let read = c.entry_at-deposit.result in
+    let index = index_known l.invariant c.loop-i-test.true read c.entry_at-deposit.ensures known in
+    let balance = balance_small l.invariant c.loop-i-test.true read c.entry_at-deposit.ensures known in
     record {
       i_bound = omega (arith, index, l.invariant.size, c.requires.held);
       delta_bound = omega (arith, balance);
@@ -21,8 +21,8 @@ increase_balance-requires c =
 pub loop-i-preserved : goal.loop-i-preserved
 loop-i-preserved c =
     let credited = c.increase_balance in
-    crediting_more c.loop-i.invariant c.loop-i-test.true c.deposit_at-deposit.result
-    c.deposit_at-deposit.ensures c.requires.known credited.new.validators
+    crediting_more c.loop-i.invariant c.loop-i-test.true c.entry_at-deposit.result
+    c.entry_at-deposit.ensures c.requires.known credited.new.validators
     credited.ensures credited.auto.validators
 
 pub returns : goal.returns

@@ -28,8 +28,8 @@ process_deposits-processed-requires c =
     (settings_sound S r.settings_are_sound) (room S held r.room) in
     record { held = (ready.validators, ready.deposits); known = ready.known; sums = ready.sums }
 
-pub drain_deposits-requires : goal.drain_deposits-requires
-drain_deposits-requires c =
+pub drain-requires : goal.drain-requires
+drain-requires c =
     let a = c.args in
     let r = c.requires in
     let S = settings_of a.settings in
@@ -45,8 +45,8 @@ returns-then-left-eq0 c =
     let l = c.process_deposits-processed in
     rw c.with_deposit_balance_to_consume.ensures
     (emptied (settings_of a.settings) a.scalars held a.allowance.0 _ l.result.amount.0
-    l.result.next _ l.new.validators c.drain_deposits.new.deposits c.requires.allowance_is_limit refl l.ensures
-    (omega (arith, l.ensures.reached)) c.drain_deposits.ensures c.if-left-eq0.true)
+    l.result.next _ l.new.validators c.drain.new.table c.requires.allowance_is_limit refl l.ensures
+    (omega (arith, l.ensures.reached)) c.drain.ensures c.if-left-eq0.true)
 
 pub returns : goal.returns
 returns c =
@@ -55,5 +55,5 @@ returns c =
     let l = c.process_deposits-processed in
     rw c.with_deposit_balance_to_consume-2.ensures
     (waiting (settings_of a.settings) a.scalars held a.allowance.0 _ l.result.amount.0
-    l.result.next _ l.new.validators c.drain_deposits.new.deposits c.requires.allowance_is_limit refl l.ensures
-    (omega (arith, l.ensures.reached)) c.drain_deposits.ensures (omega arith))
+    l.result.next _ l.new.validators c.drain.new.table c.requires.allowance_is_limit refl l.ensures
+    (omega (arith, l.ensures.reached)) c.drain.ensures (omega arith))

@@ -1,5 +1,3 @@
-use mathlib.Core.Path.{ap}
-use lib.Dec.{leb}
 use Rattle.primitives.specs.Settings.{settings_of}
 use Rattle.records.specs.Books.{tables}
 use Rattle.queue_room.specs.Room.{fits_uncounted}
@@ -13,9 +11,3 @@ returns-then-scalars-limit c =
     (tables a.identities.now a.validators.now ds ps a.consolidations.now)
     a.settings.pending_balance_deposits_limit c.requires.queue_ready.most
     c.if-scalars-limit.true
-
-pub returns : goal.returns
-returns c =
-    λ ds ps.
-    let a = c.args in
-    ap (λ n. leb n a.settings.pending_balance_deposits_limit) (c.queue_after_consolidations.ensures ds ps)

@@ -1,5 +1,5 @@
 use mathlib.Core.Path.{◌≡◌}
-use Prim.Native.Nat.{◌-◌, ◌≤◌}
+use Prim.Native.Nat.{◌≤◌}
 use lib.ListN.{length}
 use Rattle.rules.specs.Types as rule
 use Rattle.primitives.specs.Settings.{settings_of}
@@ -9,13 +9,10 @@ use Rattle.queue_room.proofs.Counting.{Counting}
 use Rattle.queue_room.proofs.count_excess_entries.Given as goal
 
 abbrev pub invariant-loop-k : goal.invariant-loop-k
-invariant-loop-k l =
-    (length l.balances ≡ 65536)
-    × (l.entries ≤ l.k)
-    × (l.k ≤ l.scalars.consolidations)
-    × ((b : rule.Books) → Represented l.scalars l.validators l.initial.balances b
-    → Counting (settings_of l.settings) l.scalars (consolidations_of l.scalars l.consolidations) b l.validators l.balances
-    l.k l.entries)
-
-abbrev pub decreases-loop-k : goal.decreases-loop-k
-decreases-loop-k l = l.scalars.consolidations - l.k
+invariant-loop-k l = record {
+  size : length l.balances ≡ 65536;
+  few : l.entries ≤ l.k;
+  counted : (b : rule.Books) → Represented l.fn.scalars l.validators l.initial.balances b
+      → Counting (settings_of l.fn.settings) l.fn.scalars (consolidations_of l.fn.scalars l.consolidations) b l.validators
+      l.balances l.k l.entries;
+}

@@ -1,20 +1,8 @@
-use native.Mathlib.Omega.{arith}
 use Rattle.primitives.specs.Settings.{settings_of}
 use Rattle.records.specs.Books.{tables}
 use Rattle.queue_room.specs.Represented.{represented_books}
 use Rattle.queue_room.specs.Room.{queue_of_step}
 use Rattle.queue_room.proofs.queue_after_consolidations.Goals as goal
-
-pub overflow_add-result : goal.overflow_add-result
-overflow_add-result c =
-    let p = c.requires in
-    omega (
-      arith,
-      c.count_excess_entries-entries.ensures.0,
-      p.consolidations_ready.most,
-      p.queue_ready.most,
-      p.queue_ready.limit_most,
-    )
 
 pub returns : goal.returns
 returns c =

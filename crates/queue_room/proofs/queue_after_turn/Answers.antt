@@ -16,16 +16,6 @@ overflow_sub-result c =
       length_rows a.scalars.deposits (deposit_at a.deposits.now),
     )
 
-pub overflow_add-result : goal.overflow_add-result
-overflow_add-result c =
-    let p = c.requires in
-    omega (
-      arith,
-      c.count_excess_entries-entries.ensures.0,
-      p.consolidations_ready.most,
-      p.deposits_ready.most,
-    )
-
 pub returns : goal.returns
 returns c =
     λ ps e.

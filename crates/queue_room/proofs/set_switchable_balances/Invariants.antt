@@ -1,9 +1,5 @@
-use Prim.Native.Nat.{◌-◌}
 use Rattle.queue_room.proofs.Filling.{Filling}
 use Rattle.queue_room.proofs.set_switchable_balances.Given as goal
 
 abbrev pub invariant-loop-i : goal.invariant-loop-i
 invariant-loop-i l = Filling l.identities l.validators l.balances l.i
-
-abbrev pub decreases-loop-i : goal.decreases-loop-i
-decreases-loop-i l = l.scalars.validators - l.i

@@ -1,4 +1,5 @@
-use mathlib.Core.Path.{sym, ap, ◌∙◌}
+use Rattle.std.proofs.Common.{Err, ap, refl, rules, ◌∙◌, ◌≡◌}
+use Rattle.primitives.specs.Answers.{refusal_not_0}
 use mathlib.Core.Bool.{◌&&◌}
 use Prim.Native.Nat.{◌+◌}
 use native.Mathlib.Omega.{arith}
@@ -12,8 +13,10 @@ use Rattle.receipt_operations.proofs.Receipts.{added_number, added_stepped}
 use Rattle.receipt_operations.proofs.Sizes.{sums_known, limits_kept}
 use Rattle.receipt_operations.proofs.add_validator_to_registry.Goals as goal
 
-pub returns-then-number-ne-DONE : goal.returns-then-number-ne-DONE
-returns-then-number-ne-DONE c =
+pub returns-in_err-size_number : goal.returns-in_err-size_number
+returns-in_err-size_number c =
+    let e : c.from_residual.result ≡ Err c.in_err-size_number.field-0.0 = search rules in
+    rw e (
     λ ps cs k.
     let a = c.args in
     let t = tables a.identities.now a.validators.now a.deposits.now ps cs in
@@ -21,9 +24,9 @@ returns-then-number-ne-DONE c =
     (sums_known
     (leb (a.scalars.validators + 1) a.settings.validator_registry_limit
     && leb (a.scalars.deposits + 1) a.settings.pending_balance_deposits_limit)
-    c.size_number-number.ensures (c.requires.sums_is a.identities.now ps cs)
+    c.in_err-size_number.ensures (c.requires.sums_is a.identities.now ps cs)
     ∙ added_number (settings_of a.settings) a.scalars t k a.public_key a.withdrawal_credentials a.amount.0)
-    c.if-number-ne-DONE.true
+    (refusal_not_0 _))
 
 pub push_validator-requires : goal.push_validator-requires
 push_validator-requires c =
@@ -31,15 +34,15 @@ push_validator-requires c =
     let ready = c.requires.receipt_ready in
     let fits =
     limits_kept (a.scalars.validators + 1) a.settings.validator_registry_limit (a.scalars.deposits + 1)
-    a.settings.pending_balance_deposits_limit a.sums c.size_number-number.ensures c.if-number-ne-DONE.false in
+    a.settings.pending_balance_deposits_limit a.sums c.in_ok-size_number.ensures refl in
     (omega (arith, fits.0, ready.identities), omega (arith, fits.0, ready.validators))
 
-pub push_deposit-requires : goal.push_deposit-requires
-push_deposit-requires c =
+pub push-requires : goal.push-requires
+push-requires c =
     let a = c.args in
     let fits =
     limits_kept (a.scalars.validators + 1) a.settings.validator_registry_limit (a.scalars.deposits + 1)
-    a.settings.pending_balance_deposits_limit a.sums c.size_number-number.ensures c.if-number-ne-DONE.false in
+    a.settings.pending_balance_deposits_limit a.sums c.in_ok-size_number.ensures refl in
     omega (arith, fits.1, c.requires.receipt_ready.deposits)
 
 pub returns : goal.returns
@@ -48,15 +51,14 @@ returns c =
     let a = c.args in
     let t = tables a.identities.now a.validators.now a.deposits.now ps cs in
     judged_done
-    (sym c.if-number-ne-DONE.false
-    ∙ sums_known
+    (sums_known
     (leb (a.scalars.validators + 1) a.settings.validator_registry_limit
     && leb (a.scalars.deposits + 1) a.settings.pending_balance_deposits_limit)
-    c.size_number-number.ensures (c.requires.sums_is a.identities.now ps cs)
+    c.in_ok-size_number.ensures (c.requires.sums_is a.identities.now ps cs)
     ∙ added_number (settings_of a.settings) a.scalars t k a.public_key a.withdrawal_credentials a.amount.0)
     (added_stepped a.scalars a.public_key a.withdrawal_credentials a.amount.0 a.identities.now
     a.validators.now a.deposits.now _ _ _ c.get_validator_from_deposit-v.ensures
-    c.push_validator.ensures c.push_deposit.ensures
+    c.push_validator.ensures c.push.ensures
     (c.with_deposits-queued.ensures
     ∙ ap (λ (s : Scalars). scalars.with_deposits s (a.scalars.deposits + 1)) c.with_validators-added.ensures)
     ps cs)

@@ -15,7 +15,7 @@ use Rattle.receipt_operations.proofs.apply_deposit.Goals as goal
 pub validator_at-v-requires : goal.validator_at-v-requires
 validator_at-v-requires c =
     let ready = c.requires.receipt_ready in
-    let known = c.in-At.ensures [] [] [] [] in (
+    let known = c.in-Some.ensures [] [] [] [] in (
       omega (arith, known.1, ready.registry, ready.identities),
       omega (arith, known.1, ready.registry, ready.validators),
     )
@@ -23,7 +23,7 @@ validator_at-v-requires c =
 pub deposit_to_known-requires : goal.deposit_to_known-requires
 deposit_to_known-requires c =
     let a = c.args in
-    let known = c.in-At.ensures [] [] [] [] in
+    let known = c.in-Some.ensures [] [] [] [] in
     record {
       receipt_ready = c.requires.receipt_ready;
       known_validator = (
@@ -36,17 +36,17 @@ deposit_to_known-requires c =
       sums_is = c.requires.sums_is;
     }
 
-pub returns-in-At : goal.returns-in-At
-returns-in-At c =
+pub returns-in-Some : goal.returns-in-Some
+returns-in-Some c =
     λ ps cs k.
     let a = c.args in
     let S = settings_of a.settings in
     let t = tables a.identities.now a.validators.now a.deposits.now ps cs in
-    let known = c.in-At.ensures a.validators.now a.deposits.now ps cs in
+    let known = c.in-Some.ensures a.validators.now a.deposits.now ps cs in
     judged_as (apply_deposit S a.public_key a.withdrawal_credentials a.amount.0 a.valid)
-    (ap (λ (switch : Bool). known_deposit S c.in-At.i.0 a.amount.0 switch (books_of a.scalars t))
+    (ap (λ (switch : Bool). known_deposit S c.in-Some.i.0 a.amount.0 switch (books_of a.scalars t))
     c.switches-switch.ensures
-    ∙ apply_known S a.scalars t a.public_key a.withdrawal_credentials a.amount.0 a.valid c.in-At.i.0 known.0
+    ∙ apply_known S a.scalars t a.public_key a.withdrawal_credentials a.amount.0 a.valid c.in-Some.i.0 known.0
     (plain_validator c.validator_at-v.result) known.1 c.validator_at-v.ensures)
     (c.deposit_to_known.ensures ps cs k)
 

@@ -1,4 +1,5 @@
-use mathlib.Core.Path.{sym, ap, ◌∙◌}
+use Rattle.std.proofs.Common.{Err, ap, refl, rules, ◌∙◌, ◌≡◌}
+use Rattle.primitives.specs.Answers.{refusal_not_0}
 use Prim.Native.Nat.{◌+◌}
 use native.Mathlib.Omega.{arith}
 use lib.Dec.{leb}
@@ -24,8 +25,10 @@ overflow_add-within-2 c =
       ready.most_queued,
     )
 
-pub returns-then-number-ne-DONE : goal.returns-then-number-ne-DONE
-returns-then-number-ne-DONE c =
+pub returns-in_err-size_number : goal.returns-in_err-size_number
+returns-in_err-size_number c =
+    let e : c.from_residual.result ≡ Err c.in_err-size_number.field-0.0 = search rules in
+    rw e (
     λ ps cs k.
     let a = c.args in
     let t = tables a.identities.now a.validators.now a.deposits.now ps cs in
@@ -33,17 +36,17 @@ returns-then-number-ne-DONE c =
     judged_refused
     (sums_known
     (leb (a.scalars.deposits + 1 + c.queued_by_switch-more.result) a.settings.pending_balance_deposits_limit)
-    c.size_number-number.ensures (c.requires.sums_is a.identities.now ps cs)
+    c.in_err-size_number.ensures (c.requires.sums_is a.identities.now ps cs)
     ∙ known_number (settings_of a.settings) a.scalars t a.i.0 known.0 (plain_validator a.v) known.1 k a.amount.0
     c.queued_by_switch-more.result a.switch known.2 c.queued_by_switch-more.ensures)
-    c.if-number-ne-DONE.true
+    (refusal_not_0 _))
 
-pub push_deposit-requires : goal.push_deposit-requires
-push_deposit-requires c =
+pub push-requires : goal.push-requires
+push-requires c =
     let a = c.args in
     let fits =
     limit_kept (a.scalars.deposits + 1 + c.queued_by_switch-more.result) a.settings.pending_balance_deposits_limit
-    a.sums c.size_number-number.ensures c.if-number-ne-DONE.false in
+    a.sums c.in_ok-size_number.ensures refl in
     omega (arith, fits, c.requires.receipt_ready.deposits)
 
 pub returns-then-not-switch : goal.returns-then-not-switch
@@ -53,14 +56,13 @@ returns-then-not-switch c =
     let t = tables a.identities.now a.validators.now a.deposits.now ps cs in
     let known = c.requires.known_validator in
     judged_done
-    (sym c.if-number-ne-DONE.false
-    ∙ sums_known
+    (sums_known
     (leb (a.scalars.deposits + 1 + c.queued_by_switch-more.result) a.settings.pending_balance_deposits_limit)
-    c.size_number-number.ensures (c.requires.sums_is a.identities.now ps cs)
+    c.in_ok-size_number.ensures (c.requires.sums_is a.identities.now ps cs)
     ∙ known_number (settings_of a.settings) a.scalars t a.i.0 known.0 (plain_validator a.v) known.1 k a.amount.0
     c.queued_by_switch-more.result a.switch known.2 c.queued_by_switch-more.ensures)
     (known_stepped (settings_of a.settings) a.scalars a.i.0 a.amount.0 a.identities.now
-    a.validators.now a.deposits.now _ c.push_deposit.ensures ps cs a.switch
+    a.validators.now a.deposits.now _ c.push.ensures ps cs a.switch
     c.if-not-switch.true c.with_deposits-queued.ensures)
 
 pub switch_to_compounding_validator-switched-requires : goal.switch_to_compounding_validator-switched-requires
@@ -70,7 +72,7 @@ switch_to_compounding_validator-switched-requires c =
     let ready = c.requires.receipt_ready in
     let fits =
     limit_kept (a.scalars.deposits + 1 + c.queued_by_switch-more.result) a.settings.pending_balance_deposits_limit
-    a.sums c.size_number-number.ensures c.if-number-ne-DONE.false in
+    a.sums c.in_ok-size_number.ensures refl in
     let grown = c.with_deposits-queued.ensures in
     let same = ap (λ (x : Scalars). x.validators) grown in
     record {
@@ -83,7 +85,7 @@ switch_to_compounding_validator-switched-requires c =
           switch_room (settings_of a.settings) a.scalars c.with_deposits-queued.result a.i.0
           known.0 (plain_validator a.v) a.identities.now a.validators.now a.deposits.now _
           known.1 (known.2 c.if-not-switch.false) c.queued_by_switch-more.result a.switch c.if-not-switch.false
-          c.queued_by_switch-more.ensures (omega (arith, fits, ready.deposits)) c.push_deposit.auto.deposits grown;
+          c.queued_by_switch-more.ensures (omega (arith, fits, ready.deposits)) c.push.auto.table grown;
     }
 
 pub returns : goal.returns
@@ -93,14 +95,13 @@ returns c =
     let t = tables a.identities.now a.validators.now a.deposits.now ps cs in
     let known = c.requires.known_validator in
     judged_done
-    (sym c.if-number-ne-DONE.false
-    ∙ sums_known
+    (sums_known
     (leb (a.scalars.deposits + 1 + c.queued_by_switch-more.result) a.settings.pending_balance_deposits_limit)
-    c.size_number-number.ensures (c.requires.sums_is a.identities.now ps cs)
+    c.in_ok-size_number.ensures (c.requires.sums_is a.identities.now ps cs)
     ∙ known_number (settings_of a.settings) a.scalars t a.i.0 known.0 (plain_validator a.v) known.1 k a.amount.0
     c.queued_by_switch-more.result a.switch known.2 c.queued_by_switch-more.ensures)
     (switch_stepped (settings_of a.settings) a.scalars a.i.0 a.amount.0 a.identities.now
-    a.validators.now a.deposits.now _ c.push_deposit.ensures ps cs a.switch
+    a.validators.now a.deposits.now _ c.push.ensures ps cs a.switch
     c.if-not-switch.false _ c.with_deposits-queued.ensures
     (c.switch_to_compounding_validator-switched.ensures.by_index_3 ps cs)
     (c.switch_to_compounding_validator-switched.ensures.by_index_2 ps cs))

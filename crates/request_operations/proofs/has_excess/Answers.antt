@@ -1,12 +1,7 @@
 use native.Mathlib.Omega.{arith}
 use Rattle.rule_laws.specs.Accepted.{settings_sound}
-use Rattle.request_operations.specs.Requests.{has_excess}
 use Rattle.request_operations.proofs.has_excess.Goals as goal
 
 pub overflow_add-result : goal.overflow_add-result
 overflow_add-result c =
     omega (arith, c.requires.pending_bound, (settings_sound _ c.requires.settings_are_sound).min_activation_balance)
-
-pub returns : goal.returns
-unfolding has_excess
-returns c = rw c.has_compounding_withdrawal_credential-compounding.ensures

@@ -1,3 +1,4 @@
+use Rattle.std.proofs.Math.Bool.{not-not}
 use mathlib.Core.Path.{◌≡◌, sym, ap, ◌∙◌}
 use mathlib.Core.Bool.{Bool, false, not, ◌&&◌}
 use Prim.Native.Nat.{◌+◌, ◌≤◌}
@@ -22,28 +23,28 @@ returns-then-not-has_execution_withdrawal_credential c =
     let address = c.args.source_address in
     fails _ _ (ap (λ (x : Bool). not (x && same_bytes (withdrawal_address v) address)) none)
 
-pub returns-then-not-same_address : goal.returns-then-not-same_address
+pub returns-then-ne : goal.returns-then-ne
 unfolding may_request
-returns-then-not-same_address c =
+returns-then-ne c =
     let a = c.args in
     let same =
-    c.same_address.ensures ∙ ap (λ x. same_bytes x a.source_address) c.withdrawal_address-address.ensures in
+    ap not c.ne.ensures ∙ not-not _ ∙ ap (λ x. same_bytes x a.source_address) c.withdrawal_address-address.ensures in
     fails _ _
     (ap not
     (and_false (has_execution_withdrawal_credential (plain_validator a.v)) _
-    (sym same ∙ c.if-not-same_address.true)))
+    (sym same ∙ ap not c.if-ne.true)))
 
 pub returns-then-not-is_active_validator : goal.returns-then-not-is_active_validator
 unfolding may_request
 returns-then-not-is_active_validator c =
     let a = c.args in
     let same =
-    c.same_address.ensures ∙ ap (λ x. same_bytes x a.source_address) c.withdrawal_address-address.ensures in
+    ap not c.ne.ensures ∙ not-not _ ∙ ap (λ x. same_bytes x a.source_address) c.withdrawal_address-address.ensures in
     let own =
     ap not
     (join
     (sym c.has_execution_withdrawal_credential.ensures ∙ c.if-not-has_execution_withdrawal_credential.false)
-    (sym same ∙ c.if-not-same_address.false)) in
+    (sym same ∙ ap not c.if-ne.false)) in
     passes _ _ own
     (fails _ _ (ap not (sym c.is_active_validator.ensures ∙ c.if-not-is_active_validator.true)))
 
@@ -52,12 +53,12 @@ unfolding may_request
 returns-then-v-ne-FAR_FUTURE_EPOCH c =
     let a = c.args in
     let same =
-    c.same_address.ensures ∙ ap (λ x. same_bytes x a.source_address) c.withdrawal_address-address.ensures in
+    ap not c.ne.ensures ∙ not-not _ ∙ ap (λ x. same_bytes x a.source_address) c.withdrawal_address-address.ensures in
     let own =
     ap not
     (join
     (sym c.has_execution_withdrawal_credential.ensures ∙ c.if-not-has_execution_withdrawal_credential.false)
-    (sym same ∙ c.if-not-same_address.false)) in
+    (sym same ∙ ap not c.if-ne.false)) in
     passes _ _ own
     (passes _ _ (ap not (sym c.is_active_validator.ensures ∙ c.if-not-is_active_validator.false))
     (fails _ _ (differs _ _ c.if-v-ne-FAR_FUTURE_EPOCH.true)))
@@ -78,12 +79,12 @@ unfolding may_request
 returns c =
     let a = c.args in
     let same =
-    c.same_address.ensures ∙ ap (λ x. same_bytes x a.source_address) c.withdrawal_address-address.ensures in
+    ap not c.ne.ensures ∙ not-not _ ∙ ap (λ x. same_bytes x a.source_address) c.withdrawal_address-address.ensures in
     let own =
     ap not
     (join
     (sym c.has_execution_withdrawal_credential.ensures ∙ c.if-not-has_execution_withdrawal_credential.false)
-    (sym same ∙ c.if-not-same_address.false)) in
+    (sym same ∙ ap not c.if-ne.false)) in
     passes _ _ own
     (passes _ _ (ap not (sym c.is_active_validator.ensures ∙ c.if-not-is_active_validator.false))
     (passes _ _ (agrees _ _ c.if-v-ne-FAR_FUTURE_EPOCH.false)

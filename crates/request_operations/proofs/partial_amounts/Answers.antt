@@ -12,7 +12,7 @@ overflow_add-sum c =
     let l = c.loop-k in
     omega (
       arith,
-      ap amount_of c.partial_at-p.ensures,
+      ap amount_of c.entry_at-sum.ensures,
       total_step amount_of a.scalars.partials (partial_at a.partials.now) l.k (omega arith),
       c.requires.amounts,
     )
@@ -23,7 +23,7 @@ loop-k-preserved c =
     let l = c.loop-k in
     omega (
       arith,
-      ap amount_of c.partial_at-p.ensures,
+      ap amount_of c.entry_at-sum.ensures,
       total_step amount_of a.scalars.partials (partial_at a.partials.now) l.k (omega arith),
     )
 

@@ -1,5 +1,5 @@
 use mathlib.Core.Path.{◌≡◌}
-use Prim.Native.Nat.{ℕ, ◌+◌, ◌-◌, ◌≤◌}
+use Prim.Native.Nat.{ℕ, ◌+◌}
 use lib.ListN.{drop}
 use Rattle.lists.specs.Base.{total}
 use Rattle.tables.specs.Rows.{rows}
@@ -12,9 +12,6 @@ amount_of p = p.amount
 
 abbrev pub invariant-loop-k : goal.invariant-loop-k
 invariant-loop-k l =
-    (l.k ≤ l.n)
-    × (l.sum + total amount_of (drop l.k (rows l.n (partial_at l.partials)))
-    ≡ total amount_of (rows l.n (partial_at l.partials)))
-
-abbrev pub decreases-loop-k : goal.decreases-loop-k
-decreases-loop-k l = l.n - l.k
+    let n = l.fn.scalars.partials in
+    l.sum + total amount_of (drop l.k (rows n (partial_at l.partials)))
+    ≡ total amount_of (rows n (partial_at l.partials))

@@ -58,7 +58,7 @@ validator_at-v-requires c =
     let held = tables a.identities.now a.validators.now a.deposits.now a.partials.now a.consolidations.now in
     let S = settings_of a.settings in
     let f = facts S a.scalars held c.requires in
-    let found = c.in-At.ensures a.validators.now a.deposits.now a.partials.now a.consolidations.now in
+    let found = c.in-Some.ensures a.validators.now a.deposits.now a.partials.now a.consolidations.now in
     let n = identities_ready S a.scalars held f.settings f.room f.books in
     let m = (registry_ready S a.scalars held f.settings f.room f.books).fit in
     (omega (arith, found.1, n), omega (arith, found.1, m))
@@ -81,11 +81,11 @@ returns-then-not-may_request c =
     let held = tables a.identities.now a.validators.now a.deposits.now a.partials.now a.consolidations.now in
     let S = settings_of a.settings in
     let f = facts S a.scalars held c.requires in
-    let found = c.in-At.ensures a.validators.now a.deposits.now a.partials.now a.consolidations.now in
+    let found = c.in-Some.ensures a.validators.now a.deposits.now a.partials.now a.consolidations.now in
     judged_called {op = withdrawal_request a.source_address a.public_key a.amount.0} c.requires refl
     (judged_same f.books
     (key_known S a.scalars held a.source_address a.public_key a.amount.0
-    (sym c.queue_is_full.ensures ∙ c.if-queue_is_full.false) c.in-At.i.0 found.0 found.1
+    (sym c.queue_is_full.ensures ∙ c.if-queue_is_full.false) c.in-Some.i.0 found.0 found.1
     (plain_validator c.validator_at-v.result) c.validator_at-v.ensures
     (fails _ _ (ap not (sym c.may_request.ensures ∙ c.if-not-may_request.true)))))
 
@@ -95,7 +95,7 @@ request_full_exit-requires c =
     let held = tables a.identities.now a.validators.now a.deposits.now a.partials.now a.consolidations.now in
     let S = settings_of a.settings in
     let f = facts S a.scalars held c.requires in
-    let found = c.in-At.ensures a.validators.now a.deposits.now a.partials.now a.consolidations.now in
+    let found = c.in-Some.ensures a.validators.now a.deposits.now a.partials.now a.consolidations.now in
     let far =
     may_far S a.scalars.epoch.0 (plain_validator c.validator_at-v.result) a.source_address
     (sym c.may_request.ensures ∙ c.if-not-may_request.false) in
@@ -114,11 +114,11 @@ returns-then-amount-eq0 c =
     let held = tables a.identities.now a.validators.now a.deposits.now a.partials.now a.consolidations.now in
     let S = settings_of a.settings in
     let f = facts S a.scalars held c.requires in
-    let found = c.in-At.ensures a.validators.now a.deposits.now a.partials.now a.consolidations.now in
+    let found = c.in-Some.ensures a.validators.now a.deposits.now a.partials.now a.consolidations.now in
     judged_called {op = withdrawal_request a.source_address a.public_key a.amount.0} c.requires refl
     (judged_as _
     (key_known S a.scalars held a.source_address a.public_key a.amount.0
-    (sym c.queue_is_full.ensures ∙ c.if-queue_is_full.false) c.in-At.i.0 found.0 found.1
+    (sym c.queue_is_full.ensures ∙ c.if-queue_is_full.false) c.in-Some.i.0 found.0 found.1
     (plain_validator c.validator_at-v.result) c.validator_at-v.ensures
     (passes _ _ (ap not (sym c.may_request.ensures ∙ c.if-not-may_request.false))
     (fails _ _ (eq-eqb _ _ c.if-amount-eq0.true))))
@@ -130,8 +130,8 @@ request_partial_withdrawal-requires c =
     let held = tables a.identities.now a.validators.now a.deposits.now a.partials.now a.consolidations.now in
     let S = settings_of a.settings in
     let f = facts S a.scalars held c.requires in
-    let found = c.in-At.ensures a.validators.now a.deposits.now a.partials.now a.consolidations.now in
-    let balance = balance_small S a.scalars held c.in-At.i.0 found.1 f.books in
+    let found = c.in-Some.ensures a.validators.now a.deposits.now a.partials.now a.consolidations.now in
+    let balance = balance_small S a.scalars held c.in-Some.i.0 found.1 f.books in
     let room =
     queue_room a.scalars.partials S.pending_partial_withdrawals_limit a.amount.0
     (sym c.queue_is_full.ensures ∙ c.if-queue_is_full.false) c.if-amount-eq0.false in
@@ -154,11 +154,11 @@ returns c =
     let held = tables a.identities.now a.validators.now a.deposits.now a.partials.now a.consolidations.now in
     let S = settings_of a.settings in
     let f = facts S a.scalars held c.requires in
-    let found = c.in-At.ensures a.validators.now a.deposits.now a.partials.now a.consolidations.now in
+    let found = c.in-Some.ensures a.validators.now a.deposits.now a.partials.now a.consolidations.now in
     judged_called {op = withdrawal_request a.source_address a.public_key a.amount.0} c.requires refl
     (judged_as _
     (key_known S a.scalars held a.source_address a.public_key a.amount.0
-    (sym c.queue_is_full.ensures ∙ c.if-queue_is_full.false) c.in-At.i.0 found.0 found.1
+    (sym c.queue_is_full.ensures ∙ c.if-queue_is_full.false) c.in-Some.i.0 found.0 found.1
     (plain_validator c.validator_at-v.result) c.validator_at-v.ensures
     (passes _ _ (ap not (sym c.may_request.ensures ∙ c.if-not-may_request.false))
     (passes _ _ (ne_eqb _ _ c.if-amount-eq0.false) refl)))

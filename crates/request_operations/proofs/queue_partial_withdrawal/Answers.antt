@@ -1,4 +1,5 @@
-use mathlib.Core.Path.{sym, ap, ◌∙◌}
+use Rattle.std.proofs.Common.{Err, ap, rules, ◌∙◌, ◌≡◌}
+use Rattle.primitives.specs.Answers.{refusal_not_0}
 use mathlib.Core.Bool.{true}
 use Prim.Native.Nat.{ℕ, ◌+◌, ◌-◌}
 use native.Mathlib.Omega.{arith}
@@ -20,8 +21,10 @@ withdrawable_epoch-withdrawable-requires c =
     let far = c.compute_exit_epoch_and_update_churn-a.ensures.far_off in
     omega (arith, far, (settings_sound _ c.requires.settings_are_sound).delay)
 
-pub returns-then-number-ne-DONE : goal.returns-then-number-ne-DONE
-returns-then-number-ne-DONE c =
+pub returns-in_err-size_number : goal.returns-in_err-size_number
+returns-in_err-size_number c =
+    let e : c.from_residual.result ≡ Err c.in_err-size_number.field-0.0 = search rules in
+    rw e (
     λ ids ds cs k.
     let a = c.args in
     let S = settings_of a.settings in
@@ -30,15 +33,15 @@ returns-then-number-ne-DONE c =
     let sum = c.partial_amounts-sum in
     let given = c.compute_exit_epoch_and_update_churn-a.ensures.assigned ids ds a.partials.now cs in
     let judged =
-    c.size_number-number.ensures
+    c.in_err-size_number.ensures
     ∙ ap (λ (n : ℕ). size_number true (leb sum.result.0 (BOUND - a.amount.0)) (leb n BOUND))
     c.withdrawable_epoch-withdrawable.ensures
     ∙ request_number S (settings_sound _ c.requires.settings_are_sound) a.scalars held k a.i.0 a.amount.0
     sum.result.0 x c.requires.amount_and_room.0 (sum.ensures ids a.validators.now ds cs) given in
-    judged_refused judged c.if-number-ne-DONE.true
+    judged_refused judged (refusal_not_0 _))
 
-pub push_partial-requires : goal.push_partial-requires
-push_partial-requires c = c.requires.amount_and_room.1
+pub push-requires : goal.push-requires
+push-requires c = c.requires.amount_and_room.1
 
 pub returns : goal.returns
 returns c =
@@ -50,14 +53,14 @@ returns c =
     let sum = c.partial_amounts-sum in
     let given = c.compute_exit_epoch_and_update_churn-a.ensures.assigned ids ds a.partials.now cs in
     let judged =
-    c.size_number-number.ensures
+    c.in_ok-size_number.ensures
     ∙ ap (λ (n : ℕ). size_number true (leb sum.result.0 (BOUND - a.amount.0)) (leb n BOUND))
     c.withdrawable_epoch-withdrawable.ensures
     ∙ request_number S (settings_sound _ c.requires.settings_are_sound) a.scalars held k a.i.0 a.amount.0
     sum.result.0 x c.requires.amount_and_room.0 (sum.ensures ids a.validators.now ds cs) given in
-    judged_done (sym c.if-number-ne-DONE.false ∙ judged)
+    judged_done (judged)
     (partial_stepped S a.scalars a.i.0 a.amount.0 x a.partials.now _ ids a.validators.now ds cs
-    (rw c.withdrawable_epoch-withdrawable.ensures at c.push_partial.ensures)
+    (rw c.withdrawable_epoch-withdrawable.ensures at c.push.ensures)
     (c.with_partials-queued.ensures
     ∙ ap (λ (s : Scalars). scalars.with_partials s (a.scalars.partials + 1)) c.with_exit_churn-charged.ensures)
     given)

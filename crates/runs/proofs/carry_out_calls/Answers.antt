@@ -20,9 +20,6 @@ next_call-k-requires c =
     let there = carrying_call c.loop-i.invariant.0 c.requires.calls_at.most c.loop-i-test.true in
     record { k_bound = there.near; well_formed = there.good }
 
-pub overflow_add-i : goal.overflow_add-i
-overflow_add-i c = omega (arith, c.loop-i-test.true, c.requires.calls_at.most)
-
 pub loop-i-preserved : goal.loop-i-preserved
 loop-i-preserved c =
     let line = c.carry_out_line-done in

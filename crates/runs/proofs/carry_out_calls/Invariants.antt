@@ -1,4 +1,3 @@
-use Prim.Native.Nat.{◌-◌}
 use Rattle.primitives.specs.Settings.{settings_of}
 use Rattle.records.specs.Books.{tables}
 use Rattle.file_calls.specs.Ready.{Holds}
@@ -12,6 +11,3 @@ invariant-loop-i l =
     let left = tables l.identities l.validators l.deposits l.partials l.consolidations in
     Carrying (settings_of l.settings) first.after lent l.file l.n first.results l.after left l.k l.i l.results
     × Holds l.after left l.sum.0
-
-abbrev pub decreases-loop-i : goal.decreases-loop-i
-decreases-loop-i l = l.n - l.i

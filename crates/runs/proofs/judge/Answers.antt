@@ -1,29 +1,28 @@
-use mathlib.Core.Path.{sym, ◌∙◌}
+use Rattle.std.proofs.Common.{◌≡◌, Err, rules, sym, ◌∙◌, refl}
+use Rattle.primitives.specs.Answers.{refusal_not_0}
 use Rattle.acceptance.specs.Total.{total_held}
 use Rattle.runs.specs.Answers.{books_refused, file_refused, results_refused, nothing_refused}
 use Rattle.runs.proofs.judge.Goals as goal
 
-pub returns-then-handed-ne-DONE : goal.returns-then-handed-ne-DONE
-returns-then-handed-ne-DONE c =
-    let q = c.accept-handed.ensures.number_value in
-    books_refused _ _ _ _ _ (c.refused.ensures ∙ q) (λ z. c.if-handed-ne-DONE.true (sym c.refused.ensures ∙ z))
+pub returns-in_err-held : goal.returns-in_err-held
+returns-in_err-held c =
+    let e : c.from_residual.result ≡ Err c.in_err-held.field-0.0 = search rules in
+    rw e (books_refused _ _ _ _ _ c.in_err-held.ensures.number_value (refusal_not_0 _))
 
 pub returns-then-not-calls_file_ok : goal.returns-then-not-calls_file_ok
 returns-then-not-calls_file_ok c =
-    let h = sym c.accept-handed.ensures.number_value ∙ c.if-handed-ne-DONE.false in
     let broken = sym c.calls_file_ok.ensures ∙ c.if-not-calls_file_ok.true in
-    file_refused _ _ _ _ _ h c.refused-then-not-calls_file_ok.ensures broken
+    file_refused _ _ _ _ _ (sym c.in_ok-held.ensures.number_value) refl broken
 
 pub returns-then-space-count : goal.returns-then-space-count
 returns-then-space-count c =
-    let h = sym c.accept-handed.ensures.number_value ∙ c.if-handed-ne-DONE.false in
     let good = sym c.calls_file_ok.ensures ∙ c.if-not-calls_file_ok.false in
-    results_refused _ _ _ _ _ h good c.calls_count-count.ensures c.refused-then-space-count.ensures
+    results_refused _ _ _ _ _ (sym c.in_ok-held.ensures.number_value) good c.calls_count-count.ensures refl
     c.if-space-count.true
 
 pub returns : goal.returns
 returns c =
-    let h = sym c.accept-handed.ensures.number_value ∙ c.if-handed-ne-DONE.false in
+    let h = sym c.in_ok-held.ensures.number_value in
     let good = sym c.calls_file_ok.ensures ∙ c.if-not-calls_file_ok.false in
     nothing_refused _ _ _ _ _ h good c.calls_count-count.ensures c.if-space-count.false
-    (total_held _ _ _ h c.accept-handed.ensures.held_value)
+    (total_held _ _ _ h c.in_ok-held.ensures.held_value)

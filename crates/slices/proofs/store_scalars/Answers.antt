@@ -1,26 +1,5 @@
-use mathlib.Core.Path.{◌≡◌, refl}
-use native.Mathlib.Omega.{arith}
-use Rattle.tables.specs.Rows.{rows}
-use Rattle.slices.specs.Front.{front_none, front_more}
+use Rattle.std.proofs.Common.{◌∙◌, ap, sym, length, length-take-le}
 use Rattle.slices.proofs.store_scalars.Goals as goal
 
-pub loop-j-init : goal.loop-j-init
-loop-j-init c = (omega arith, front_none)
-
-pub bounds-scalars-j : goal.bounds-scalars-j
-bounds-scalars-j c = omega (arith, c.loop-j.invariant.1.size)
-
-pub loop-j-preserved : goal.loop-j-preserved
-loop-j-preserved c =
-    let l = c.loop-j in
-    (omega arith, front_more (omega arith) refl l.invariant.1)
-
-pub shape_of-scalars : goal.shape_of-scalars
-shape_of-scalars c = c.loop-j.invariant.1.size
-
-pub returns : goal.returns
-unfolding rows
-returns c =
-    let e : c.loop-j.j ≡ 13 = omega arith in
-    let w = rw e at c.loop-j.invariant.1.words in
-    rw c.scalar_numbers-numbers.ensures at w
+pub copy_from_slice-requires : goal.copy_from_slice-requires
+copy_from_slice-requires c = length-take-le 13 c.args.scalars.now c.requires ∙ sym (ap length c.into-numbers.ensures)

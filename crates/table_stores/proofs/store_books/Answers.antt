@@ -15,8 +15,8 @@ store_validators-requires c =
       n_fits = (room.identities, room.validators);
     }
 
-pub store_deposits-requires : goal.store_deposits-requires
-store_deposits-requires c =
+pub store_records-requires : goal.store_records-requires
+store_records-requires c =
     let ws = words c.args.file.now in
     record {
       readable =
@@ -25,8 +25,8 @@ store_deposits-requires c =
       n_fits = c.requires.fits.deposits;
     }
 
-pub store_partials-requires : goal.store_partials-requires
-store_partials-requires c =
+pub store_records-requires-2 : goal.store_records-requires-2
+store_records-requires-2 c =
     let ws = words c.args.file.now in
     record {
       readable =
@@ -35,8 +35,8 @@ store_partials-requires c =
       n_fits = c.requires.fits.partials;
     }
 
-pub store_consolidations-requires : goal.store_consolidations-requires
-store_consolidations-requires c =
+pub store_records-requires-3 : goal.store_records-requires-3
+store_records-requires-3 c =
     let ws = words c.args.file.now in
     record {
       readable =
@@ -48,5 +48,5 @@ store_consolidations-requires c =
 pub returns : goal.returns
 returns c =
     books_stored (words c.args.file.now) c.requires.scalars_read c.deposits_place.ensures c.partials_place.ensures
-    c.consolidations_place.ensures c.store_validators.ensures c.store_deposits.ensures
-    c.store_partials.ensures c.store_consolidations.ensures
+    c.consolidations_place.ensures c.store_validators.ensures c.store_records.ensures
+    c.store_records-2.ensures c.store_records-3.ensures

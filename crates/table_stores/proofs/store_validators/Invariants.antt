@@ -1,10 +1,6 @@
-use Prim.Native.Nat.{◌-◌, ◌≤◌}
 use Rattle.file_format.specs.Words.{words}
 use Rattle.table_stores.specs.Stored.{ValidatorsStored}
 use Rattle.table_stores.proofs.store_validators.Given as goal
 
 abbrev pub invariant-loop-i : goal.invariant-loop-i
-invariant-loop-i l = (l.i ≤ l.n) × ValidatorsStored (words l.file) l.i l.initial.identities l.initial.validators l.identities l.validators
-
-abbrev pub decreases-loop-i : goal.decreases-loop-i
-decreases-loop-i l = l.n - l.i
+invariant-loop-i l = ValidatorsStored (words l.file) l.i l.initial.identities l.initial.validators l.identities l.validators

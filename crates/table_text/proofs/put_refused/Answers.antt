@@ -1,5 +1,5 @@
 -- `table_text::put_refused` meets its contract.
-use borrow.Author.Rules.{rules}
+use Rattle.std.proofs.Common.{rules}
 use Rattle.table_text.specs.Laws.{refused_printed}
 use Rattle.table_text.proofs.put_refused.Goals as goal
 

@@ -1,5 +1,5 @@
 -- `table_text::put_table` meets its contract.
-use borrow.Author.Rules.{rules}
+use Rattle.std.proofs.Common.{rules}
 use Rattle.table_text.proofs.Laws.{table_printed}
 use Rattle.table_text.proofs.put_table.Goals as goal
 

@@ -6,11 +6,11 @@ use Rattle.waiting_deposits.specs.Blocks.{reading_none, reading_more}
 use Rattle.waiting_deposits.proofs.block_from.Goals as goal
 
 pub loop-k-init : goal.loop-k-init
-loop-k-init c = (reading_none _ _ refl, omega arith)
+loop-k-init c = reading_none _ _ refl
 
 pub loop-k-preserved : goal.loop-k-preserved
 loop-k-preserved c =
-    let within : c.loop-k.k < 16 = omega (arith, c.min_usize-count.ensures) in
+    let within : c.loop-k.k < 16 = omega (arith, c.min-count.ensures) in
     let l = c.loop-k in
-    let size = length-set l.list l.k c.deposit_at.result ∙ l.invariant.0.size in
-    (reading_more l.invariant.0 within c.deposit_at.result c.deposit_at.ensures size, omega arith)
+    let size = length-set l.list l.k c.entry_at.result ∙ l.invariant.size in
+    reading_more l.invariant within c.entry_at.result c.entry_at.ensures size

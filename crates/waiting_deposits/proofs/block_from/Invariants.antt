@@ -1,10 +1,7 @@
-use Prim.Native.Nat.{ℕ, ◌+◌, ◌-◌, ◌≤◌}
+use Prim.Native.Nat.{ℕ, ◌+◌}
 use Rattle.records.specs.Layout.{deposit_at}
 use Rattle.waiting_deposits.specs.Blocks.{Reading}
 use Rattle.waiting_deposits.proofs.block_from.Given as goal
 
 abbrev pub invariant-loop-k : goal.invariant-loop-k
-invariant-loop-k l = Reading (λ (i : ℕ). deposit_at l.deposits (l.from + i)) l.list l.k × (l.k ≤ l.count)
-
-abbrev pub decreases-loop-k : goal.decreases-loop-k
-decreases-loop-k l = l.count - l.k
+invariant-loop-k l = Reading (λ (i : ℕ). deposit_at l.deposits (l.from + i)) l.list l.k

@@ -3,52 +3,41 @@ use Rattle.primitives.specs.Settings.{settings_of}
 use Rattle.records.specs.Books.{tables, books_of}
 use Rattle.expected_withdrawals.specs.Expected.{handed_list}
 use Rattle.withdrawals.specs.Laws.{expected_partials, stepped}
-use Rattle.withdrawals.specs.Ready.{ready_by_tests}
+use Rattle.withdrawals.specs.Ready.{Ready, ready_by_tests}
 use Rattle.withdrawals.proofs.process_withdrawals.Goals as goal
+use Rattle.withdrawals.proofs.process_withdrawals.Goals.{Start}
 
-pub overflow_sub-left : goal.overflow_sub-left
-overflow_sub-left c =
+-- what every step asks for
+ready : (c : Start) → Ready c.args.settings c.args.scalars c.args.validators.now c.args.partials.now
+    c.args.list c.args.n c.args.expected.partials
+ready c =
     let a = c.args in
     let r = c.requires in
-    let lent = tables a.identities.now a.validators.now a.deposits.now a.partials.now a.consolidations.now in
-    let ready = ready_by_tests a.settings a.scalars lent a.list a.n r.settings_value r.consolidations_value
-    r.consolidations_value_2 r.expected_value r.consolidations_value_3 in
-    ready.few
+    ready_by_tests a.settings a.scalars
+    (tables a.identities.now a.validators.now a.deposits.now a.partials.now a.consolidations.now) a.list a.n
+    r.settings_value r.consolidations_value r.consolidations_value_2 r.expected_value r.consolidations_value_3
+
+pub overflow_sub-left : goal.overflow_sub-left
+overflow_sub-left c = (ready (goal.at.overflow_sub-left c).Start).few
 
 pub pay_withdrawals-requires : goal.pay_withdrawals-requires
 pay_withdrawals-requires c =
-    let a = c.args in
-    let r = c.requires in
-    let lent = tables a.identities.now a.validators.now a.deposits.now a.partials.now a.consolidations.now in
-    let ready = ready_by_tests a.settings a.scalars lent a.list a.n r.settings_value r.consolidations_value
-    r.consolidations_value_2 r.expected_value r.consolidations_value_3 in
+    let ready = ready (goal.at.pay_withdrawals-requires c).Start in
     record { held = (ready.validators, ready.count); known = ready.inside }
 
 pub remove_partials-requires : goal.remove_partials-requires
 remove_partials-requires c =
-    let a = c.args in
-    let r = c.requires in
-    let lent = tables a.identities.now a.validators.now a.deposits.now a.partials.now a.consolidations.now in
-    let ready = ready_by_tests a.settings a.scalars lent a.list a.n r.settings_value r.consolidations_value
-    r.consolidations_value_2 r.expected_value r.consolidations_value_3 in
+    let ready = ready (goal.at.remove_partials-requires c).Start in
     omega (arith, ready.few, ready.partials)
 
 pub next_index-index-requires : goal.next_index-index-requires
 next_index-index-requires c =
-    let a = c.args in
-    let r = c.requires in
-    let lent = tables a.identities.now a.validators.now a.deposits.now a.partials.now a.consolidations.now in
-    let ready = ready_by_tests a.settings a.scalars lent a.list a.n r.settings_value r.consolidations_value
-    r.consolidations_value_2 r.expected_value r.consolidations_value_3 in
+    let ready = ready (goal.at.next_index-index-requires c).Start in
     record { n_bound = ready.count; n_value = ready.index }
 
 pub next_validator_index-cursor-requires : goal.next_validator_index-cursor-requires
 next_validator_index-cursor-requires c =
-    let a = c.args in
-    let r = c.requires in
-    let lent = tables a.identities.now a.validators.now a.deposits.now a.partials.now a.consolidations.now in
-    let ready = ready_by_tests a.settings a.scalars lent a.list a.n r.settings_value r.consolidations_value
-    r.consolidations_value_2 r.expected_value r.consolidations_value_3 in
+    let ready = ready (goal.at.next_validator_index-cursor-requires c).Start in
     record {
       payload = (ready.count, ready.payload);
       sweep = ready.sweep;
@@ -60,13 +49,10 @@ next_validator_index-cursor-requires c =
 pub returns : goal.returns
 returns c =
     let a = c.args in
-    let r = c.requires in
     let lent = tables a.identities.now a.validators.now a.deposits.now a.partials.now a.consolidations.now in
-    let ready = ready_by_tests a.settings a.scalars lent a.list a.n r.settings_value r.consolidations_value
-    r.consolidations_value_2 r.expected_value r.consolidations_value_3 in
     stepped a.settings a.scalars a.identities.now a.validators.now a.deposits.now a.partials.now a.consolidations.now
-    (handed_list a.list a.n) ready.few
-    (expected_partials (settings_of a.settings) (books_of a.scalars lent) r.expected_value)
+    (handed_list a.list a.n) (ready (goal.at.returns c).Start).few
+    (expected_partials (settings_of a.settings) (books_of a.scalars lent) c.requires.expected_value)
     c.pay_withdrawals.ensures c.remove_partials.ensures
     c.next_index-index.ensures c.next_validator_index-cursor.ensures
     c.with_next_withdrawal.ensures

@@ -1,25 +1,20 @@
--- The sum so far and what is left are the whole.
-use Rattle.std.proofs.Common.{ap, arith}
-use Rattle.tables.specs.Totals.{total_step, total_end}
+use Rattle.std.proofs.Common.{rules, ◌≡◌, ℕ, ◌≤◌, ◌<◌, length, get_or, arith}
+use Rattle.std.proofs.iter.runs.Sources.{ranges}
 use Rattle.records.specs.Layout.{deposit_at}
+use Rattle.acceptance.proofs.Sums.{sum_first, sum_all}
 use Rattle.acceptance.proofs.passes.deposit_amounts.Goals as goal
 
-pub overflow_add-sum : goal.overflow_add-sum
-overflow_add-sum c =
-    let l = c.loop-i in
-    let a = c.args in
-    let step = total_step (λ d. d.amount) a.n (deposit_at a.deposits.now) l.i (omega arith) in
-    omega (arith, step, ap (λ d. d.amount) c.deposit_at-sum.ensures)
-
-pub loop-i-preserved : goal.loop-i-preserved
-loop-i-preserved c =
-    let l = c.loop-i in
-    let a = c.args in
-    let step = total_step (λ d. d.amount) a.n (deposit_at a.deposits.now) l.i (omega arith) in
-    omega (arith, step, ap (λ d. d.amount) c.deposit_at-sum.ensures)
+pub sum-requires-clause-fits : goal.sum-requires-clause-fits
+sum-requires-clause-fits c p t e =
+    let of = deposit_at c.args.deposits.now in
+    let size : length p.items ≤ c.args.n = search (rules, ranges) in
+    let each : (k : ℕ) → k < length p.items → get_or p.items k 0 ≡ (of k).amount = search (rules, ranges) in
+    omega (arith, sum_first (λ d. d.amount) of c.args.n p.items 0 size each)
 
 pub returns : goal.returns
 returns c =
-    let l = c.loop-i in
-    let a = c.args in
-    omega (arith, total_end (λ d. d.amount) a.n (deposit_at a.deposits.now) l.i (omega arith))
+    let of = deposit_at c.args.deposits.now in
+    let run = c.sum.ensures.runs tt in
+    let size : length run.0.items ≡ c.args.n = search (rules, ranges) in
+    let each : (k : ℕ) → k < length run.0.items → get_or run.0.items k 0 ≡ (of k).amount = search (rules, ranges) in
+    omega (arith, sum_all (λ d. d.amount) of c.args.n run.0.items 0 size each)

@@ -1,43 +1,12 @@
--- The loop keeps what is left of the tested sum.
-use Rattle.std.proofs.Common.{sym, refl, ap, ◌∙◌, arith}
-use Rattle.acceptance.specs.Tests.{partial_within}
-use Rattle.acceptance.specs.Laws.{tested_more, tested_stop, tested_over, tested_done}
+use Rattle.std.proofs.Common.{rules, ap, ◌∙◌}
+use Rattle.records.specs.Layout.{partial_at}
+use Rattle.acceptance.specs.Tests.{bounded, partial_within}
+use Rattle.acceptance.specs.Amounts.{tested_rows}
 use Rattle.acceptance.proofs.passes.partials_sum.Goals as goal
-
-pub loop-i-init : goal.loop-i-init
-loop-i-init c = (omega arith, omega arith, refl)
-
-pub returns-then-not-partial_within : goal.returns-then-not-partial_within
-returns-then-not-partial_within c =
-    let q = c.partial_within in
-    let p = c.partial_at-partial in
-    let l = c.loop-i in
-    let a = c.args in
-    tested_stop _ _ _ _ l.i l.sum _ l.invariant.2 (omega arith)
-    (sym (q.ensures ∙ ap (partial_within a.n) p.ensures) ∙ c.if-not-partial_within.true)
-
-pub returns-then-partial-sum : goal.returns-then-partial-sum
-returns-then-partial-sum c =
-    let p = c.partial_at-partial in
-    let l = c.loop-i in
-    tested_over _ _ _ _ l.i l.sum _ l.invariant.2 (omega arith) p.result.amount.0
-    (ap (λ x. x.amount) p.ensures) (omega arith)
-
-pub loop-i-preserved : goal.loop-i-preserved
-loop-i-preserved c =
-    let q = c.partial_within in
-    let p = c.partial_at-partial in
-    let l = c.loop-i in
-    let a = c.args in (
-      omega arith,
-      omega arith,
-      tested_more _ _ _ _ l.i l.sum _ l.invariant.2 (omega arith)
-          (sym (q.ensures ∙ ap (partial_within a.n) p.ensures)
-          ∙ c.if-not-partial_within.false)
-          p.result.amount.0 (ap (λ x. x.amount) p.ensures),
-    )
 
 pub returns : goal.returns
 returns c =
-    let l = c.loop-i in
-    tested_done _ _ _ _ l.i l.sum _ l.invariant.2 (omega arith) (omega arith)
+    let a = c.args in
+    c.sum_tested.ensures (λ i. partial_within a.n (partial_at a.partials.now i))
+    (λ i. (partial_at a.partials.now i).amount) (λ i found h post. search rules)
+    ∙ ap bounded (tested_rows (partial_within a.n) (λ p. p.amount) 0 a.m (partial_at a.partials.now))

@@ -6,36 +6,22 @@ use Rattle.acceptance.specs.Quick.{seen_more, small_sum}
 use Rattle.acceptance.proofs.quick.small_sum.Invariants.{low}
 use Rattle.acceptance.proofs.quick.small_sum.Goals as goal
 
-pub loop-i-init : goal.loop-i-init
-loop-i-init c =
-    (omega arith, omega arith, omega arith, λ f g h j p. let z : ⊥ = omega arith in absurd z)
-
 pub loop-i-preserved : goal.loop-i-preserved
 loop-i-preserved c =
     let l = c.loop-i in
     let a = c.args in
     let step = total_step low a.n (balance_at a.validators.now) l.i (omega arith) in (
       omega arith,
-      omega arith,
       omega (arith, step, c.balance_at-balance.ensures),
       rw (c.slashed_at-flags.ensures, c.balance_at-balance.ensures)
-          (seen_more c.validator_bits-bits.result l.invariant.3 c.validator_bits-bits.ensures),
+          (seen_more c.validator_bits-bits.result l.invariant.2 c.validator_bits-bits.ensures),
     )
 
-pub returns-then-flags-gt1 : goal.returns-then-flags-gt1
-returns-then-flags-gt1 c h ids = let z : ⊥ = omega arith in absurd z
-
-pub returns-then-bits-gt-BOUND : goal.returns-then-bits-gt-BOUND
-returns-then-bits-gt-BOUND c h ids = let z : ⊥ = omega arith in absurd z
-
-pub returns-then-balances-ge-SMALL : goal.returns-then-balances-ge-SMALL
-returns-then-balances-ge-SMALL c h ids = let z : ⊥ = omega arith in absurd z
-
 pub returns : goal.returns
-returns c h ids =
+returns c ids =
     let l = c.loop-i in
     let a = c.args in
     small_sum a.most.0 a.validators.now a.n l.sum c.requires.1
-    (λ j p. l.invariant.3 (omega arith) (omega arith) (omega arith) j (omega arith))
+    (λ j p. l.invariant.2 (omega arith) (omega arith) (omega arith) j (omega arith))
     (omega (arith, total_end low a.n (balance_at a.validators.now) l.i (omega arith)))
     ids

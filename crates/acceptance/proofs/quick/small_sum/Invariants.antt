@@ -1,5 +1,5 @@
 -- The sum so far and what is left are the whole, and what was seen tells of the validators so far.
-use Rattle.std.proofs.Common.{◌≡◌, ℕ, ◌+◌, ◌-◌, ◌*◌, ◌%◌, ◌^◌, ◌≤◌, drop}
+use Rattle.std.proofs.Common.{◌≡◌, ℕ, ◌+◌, ◌*◌, ◌%◌, ◌^◌, ◌≤◌, drop}
 use Rattle.lists.specs.Base.{total}
 use Rattle.tables.specs.Rows.{rows}
 use Rattle.records.specs.Layout.{balance_at}
@@ -11,10 +11,6 @@ low x = x % 2 ^ 46
 
 abbrev pub invariant-loop-i : goal.invariant-loop-i
 invariant-loop-i l =
-    (l.i ≤ l.n)
-    × (l.sum ≤ l.i * 2 ^ 46)
+    (l.sum ≤ l.i * 2 ^ 46)
     × (l.sum + total low (drop l.i (rows l.n (balance_at l.validators))) ≡ total low (rows l.n (balance_at l.validators)))
     × Seen l.most.0 l.validators l.flags l.bits l.balances l.i
-
-abbrev pub decreases-loop-i : goal.decreases-loop-i
-decreases-loop-i l = l.n - l.i

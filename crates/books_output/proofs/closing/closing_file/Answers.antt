@@ -5,14 +5,14 @@ use Rattle.books_output.proofs.closing.closing_file.Goals as goal
 
 pub carry_out_files-closing-requires : goal.carry_out_files-closing-requires
 carry_out_files-closing-requires c =
-    let i = c.identities-identities in
-    let v = c.validators-validators in
-    let d = c.deposits-deposits in
-    let p = c.partials-partials in
-    let q = c.consolidations-consolidations in record {
+    let i = c.blank-identities in
+    let v = c.blank-validators in
+    let d = c.blank-deposits in
+    let p = c.blank-partials in
+    let q = c.blank-consolidations in record {
       room = program_buffers i.result v.result d.result p.result q.result i.ensures v.ensures d.ensures p.ensures
           q.ensures;
-      results_length = c.results-results.ensures;
+      results_length = c.blank-results.ensures;
     }
 
 pub returns-then-closing-ne-DONE : goal.returns-then-closing-ne-DONE
@@ -20,7 +20,13 @@ returns-then-closing-ne-DONE c =
     let w = closing_refused {before = c.args.out.now} c.carry_out_files-closing.ensures c.if-closing-ne-DONE.true in
     record { closing_written = w; within = closing_within w; whole = closing_part w }
 
-pub returns : goal.returns
-returns c =
-    let w = closing_done c.carry_out_files-closing.ensures c.if-closing-ne-DONE.false c.write_books.ensures in
+pub returns-in-Ok : goal.returns-in-Ok
+returns-in-Ok c =
+    let w = closing_done c.carry_out_files-closing.ensures c.if-closing-ne-DONE.false c.in-Ok.ensures in
+    record { closing_written = w; within = closing_within w; whole = closing_part w }
+
+pub returns-in-Err : goal.returns-in-Err
+returns-in-Err c =
+    let w = closing_done c.carry_out_files-closing.ensures c.if-closing-ne-DONE.false
+    (rw (← c.number.ensures) at c.in-Err.ensures) in
     record { closing_written = w; within = closing_within w; whole = closing_part w }

@@ -1,5 +1,5 @@
 -- The opening is judged before the calls are looked at, and they are carried out on what was read into the tables.
-use mathlib.Core.Path.{refl}
+use mathlib.Core.Path.{refl, ◌∙◌}
 use native.Mathlib.Omega.{arith}
 use Rattle.books_output.proofs.Laws.{refused_files, calls_too_long, calls_carried}
 use Rattle.books_output.proofs.files.carry_out_files.Goals as goal
@@ -11,7 +11,7 @@ returns-then-opened-ne-DONE c =
 
 pub returns-then-calls-gt-MOST_BYTES : goal.returns-then-calls-gt-MOST_BYTES
 returns-then-calls-gt-MOST_BYTES c =
-    refused_files c.refused-then-calls-gt-MOST_BYTES.ensures (omega arith)
+    refused_files (c.refused-then-calls-gt-MOST_BYTES.ensures ∙ c.number.ensures) (omega arith)
     (calls_too_long c.open-opened.ensures c.if-opened-ne-DONE.false c.args.calls.now
     (omega (arith, c.if-calls-gt-MOST_BYTES.true)))
 

@@ -1,6 +1,5 @@
 use mathlib.Core.Path.{◌≡◌}
-use Prim.Native.Nat.{◌+◌, ◌-◌, ◌≤◌}
-use lib.ListN.{length}
+use Prim.Native.Nat.{◌+◌}
 use Rattle.records.specs.Layout.{validator_at}
 use Rattle.file_format.specs.Books.{validator}
 use Rattle.file_format.specs.PutLaws.{put}
@@ -9,9 +8,4 @@ use Rattle.books_writer.proofs.counted.put_validators.Given as goal
 
 abbrev pub invariant-loop-i : goal.invariant-loop-i
 invariant-loop-i l =
-    (l.i ≤ l.n)
-    × (length l.out ≡ length l.initial.out)
-    × (l.out ≡ put l.initial.out (l.k + 1) (first_records validator (validator_at l.identities l.validators) l.i))
-
-abbrev pub decreases-loop-i : goal.decreases-loop-i
-decreases-loop-i l = l.n - l.i
+    l.out ≡ put l.initial.out (l.k + 1) (first_records validator (validator_at l.identities l.validators) l.i)

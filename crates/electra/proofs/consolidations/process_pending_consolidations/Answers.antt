@@ -1,17 +1,20 @@
-use mathlib.Core.Path.{sym, ◌∙◌}
+use Rattle.std.proofs.Common.{◌≡◌, Err, rules, sym, ◌∙◌}
 use borrow.Author.Tests.{leb-true}
 use Rattle.acceptance.specs.Handed.{accepted}
+use Rattle.primitives.specs.Answers.{refusal_not_0}
 use Rattle.call_answers.specs.Called.{handed_refused}
 use Rattle.epoch_turns.specs.Epoch.{consolidations_over, consolidations_done}
 use Rattle.epoch_turns.specs.Epoch.{registry_there, consolidations_there, queue_there}
 use Rattle.electra.proofs.consolidations.process_pending_consolidations.Goals as goal
 
-pub returns-then-handed-ne-DONE : goal.returns-then-handed-ne-DONE
-returns-then-handed-ne-DONE c = handed_refused _ _ _ _ _ c.handed-handed.ensures c.if-handed-ne-DONE.true
+pub returns-in_err-accept : goal.returns-in_err-accept
+returns-in_err-accept c =
+    let e : c.from_residual.result ≡ Err c.in_err-accept.field-0.0 = search rules in
+    rw e (handed_refused _ _ _ _ _ c.in_err-accept.ensures.number_value (refusal_not_0 _))
 
 pub consolidations_fit-requires : goal.consolidations_fit-requires
 consolidations_fit-requires c =
-    let h = sym c.handed-handed.ensures ∙ c.if-handed-ne-DONE.false in
+    let h = sym c.in_ok-accept.ensures.number_value in
     record {
       registry_ready = registry_there _ _ _ h;
       consolidations_ready = consolidations_there _ _ _ h;
@@ -20,12 +23,12 @@ consolidations_fit-requires c =
 
 pub returns-then-not-consolidations_fit : goal.returns-then-not-consolidations_fit
 returns-then-not-consolidations_fit c =
-    consolidations_over _ _ _ (sym c.handed-handed.ensures ∙ c.if-handed-ne-DONE.false)
+    consolidations_over _ _ _ (sym c.in_ok-accept.ensures.number_value)
     (sym (c.consolidations_fit.ensures c.args.deposits.now c.args.partials.now) ∙ c.if-not-consolidations_fit.true)
 
 pub process_pending_consolidations-after-requires : goal.process_pending_consolidations-after-requires
 process_pending_consolidations-after-requires c =
-    let h = accepted _ _ _ (sym c.handed-handed.ensures ∙ c.if-handed-ne-DONE.false) in
+    let h = accepted _ _ _ (sym c.in_ok-accept.ensures.number_value) in
     record {
       room = h.room;
       books_are_sound = h.books;
@@ -36,7 +39,7 @@ process_pending_consolidations-after-requires c =
 
 pub returns : goal.returns
 returns c =
-    consolidations_done _ _ _ (sym c.handed-handed.ensures ∙ c.if-handed-ne-DONE.false)
+    consolidations_done _ _ _ (sym c.in_ok-accept.ensures.number_value)
     (sym (c.consolidations_fit.ensures c.args.deposits.now c.args.partials.now)
     ∙ c.if-not-consolidations_fit.false)
     c.process_pending_consolidations-after.ensures

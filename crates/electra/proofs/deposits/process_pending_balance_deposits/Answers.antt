@@ -1,21 +1,24 @@
-use mathlib.Core.Path.{sym, ◌∙◌}
+use Rattle.std.proofs.Common.{◌≡◌, Err, rules, sym}
 use Rattle.acceptance.specs.Handed.{accepted}
+use Rattle.primitives.specs.Answers.{refusal_not_0}
 use Rattle.call_answers.specs.Called.{handed_refused}
 use Rattle.epoch_turns.specs.Epoch.{registry_known, deposits_done}
 use Rattle.electra.proofs.deposits.process_pending_balance_deposits.Goals as goal
 
-pub returns-then-handed-ne-DONE : goal.returns-then-handed-ne-DONE
-returns-then-handed-ne-DONE c = handed_refused _ _ _ _ _ c.handed-handed.ensures c.if-handed-ne-DONE.true
+pub returns-in_err-accept : goal.returns-in_err-accept
+returns-in_err-accept c =
+    let e : c.from_residual.result ≡ Err c.in_err-accept.field-0.0 = search rules in
+    rw e (handed_refused _ _ _ _ _ c.in_err-accept.ensures.number_value (refusal_not_0 _))
 
 pub get_activation_exit_churn_limit-allowance-requires : goal.get_activation_exit_churn_limit-allowance-requires
 get_activation_exit_churn_limit-allowance-requires c =
-    let h = sym c.handed-handed.ensures ∙ c.if-handed-ne-DONE.false in
+    let h = sym c.in_ok-accept.ensures.number_value in
     record { settings_are_sound = (accepted _ _ _ h).settings; registry = registry_known _ _ _ h }
 
 pub process_pending_balance_deposits-after-requires : goal.process_pending_balance_deposits-after-requires
 process_pending_balance_deposits-after-requires c =
     let a = c.args in
-    let h = accepted _ _ _ (sym c.handed-handed.ensures ∙ c.if-handed-ne-DONE.false) in
+    let h = accepted _ _ _ (sym c.in_ok-accept.ensures.number_value) in
     record {
       settings_are_sound = h.settings;
       room = h.room;
@@ -26,5 +29,5 @@ process_pending_balance_deposits-after-requires c =
 
 pub returns : goal.returns
 returns c =
-    deposits_done _ _ _ (sym c.handed-handed.ensures ∙ c.if-handed-ne-DONE.false)
+    deposits_done _ _ _ (sym c.in_ok-accept.ensures.number_value)
     c.process_pending_balance_deposits-after.ensures

@@ -1,19 +1,22 @@
-use mathlib.Core.Path.{sym, ◌∙◌}
+use Rattle.std.proofs.Common.{◌≡◌, Err, rules, sym}
 use Rattle.acceptance.specs.Handed.{accepted}
+use Rattle.primitives.specs.Answers.{refusal_not_0}
 use Rattle.call_answers.specs.Called.{handed_refused}
 use Rattle.epoch_turns.specs.Epoch.{updates_known, effective_done}
 use Rattle.electra.proofs.effective_balances.process_effective_balance_updates.Goals as goal
 
-pub returns-then-handed-ne-DONE : goal.returns-then-handed-ne-DONE
-returns-then-handed-ne-DONE c = handed_refused _ _ _ _ _ c.handed-handed.ensures c.if-handed-ne-DONE.true
+pub returns-in_err-accept : goal.returns-in_err-accept
+returns-in_err-accept c =
+    let e : c.from_residual.result ≡ Err c.in_err-accept.field-0.0 = search rules in
+    rw e (handed_refused _ _ _ _ _ c.in_err-accept.ensures.number_value (refusal_not_0 _))
 
 pub process_effective_balance_updates-after-requires : goal.process_effective_balance_updates-after-requires
 process_effective_balance_updates-after-requires c =
-    let h = sym c.handed-handed.ensures ∙ c.if-handed-ne-DONE.false in
+    let h = sym c.in_ok-accept.ensures.number_value in
     record { settings_are_sound = (accepted _ _ _ h).settings; updates_ready = updates_known _ _ _ h }
 
 pub returns : goal.returns
 returns c =
     let a = c.args in
-    effective_done _ _ _ (sym c.handed-handed.ensures ∙ c.if-handed-ne-DONE.false)
+    effective_done _ _ _ (sym c.in_ok-accept.ensures.number_value)
     (c.process_effective_balance_updates-after.ensures.stepped a.deposits.now a.partials.now a.consolidations.now)

@@ -2,35 +2,9 @@ use mathlib.Core.Path.{refl}
 use native.Mathlib.Omega.{arith}
 use Rattle.rule_laws.specs.Accepted.{settings_sound}
 use Rattle.primitives.specs.Settings.{settings_of}
-use Rattle.epoch_processing.proofs.UpdateStep.{updating_none, updating_more, updating_end}
+use Rattle.epoch_processing.proofs.UpdateStep.{updating_more, updating_end}
 use Rattle.epoch_processing.proofs.UpdateStep.{same_balance, same_effective, downward_small, upward_small}
 use Rattle.epoch_processing.proofs.effective_balances.process_effective_balance_updates.Goals as goal
-
-pub nonzero_div-increment : goal.nonzero_div-increment
-nonzero_div-increment c =
-    let sound = settings_sound (settings_of c.args.settings) c.requires.settings_are_sound in
-    omega (arith, sound.hysteresis_quotient_some)
-
-pub overflow_mul-downward : goal.overflow_mul-downward
-overflow_mul-downward c =
-    let sound = settings_sound (settings_of c.args.settings) c.requires.settings_are_sound in
-    omega (
-      arith,
-      downward_small (settings_of c.args.settings)
-          sound,
-    )
-
-pub overflow_mul-upward : goal.overflow_mul-upward
-overflow_mul-upward c =
-    let sound = settings_sound (settings_of c.args.settings) c.requires.settings_are_sound in
-    omega (
-      arith,
-      upward_small (settings_of c.args.settings)
-          sound,
-    )
-
-pub loop-i-init : goal.loop-i-init
-loop-i-init c = updating_none _ _ _ _
 
 pub update_effective_balance-requires : goal.update_effective_balance-requires
 update_effective_balance-requires c =
@@ -39,13 +13,15 @@ update_effective_balance-requires c =
     let r = c.requires.updates_ready in
     let l = c.loop-i in
     let more = c.loop-i-test.true in
+    let band = c.of-band.ensures in
     record {
       held = (omega (arith, r.identities), omega (arith, r.validators, l.invariant.size));
-      thresholds = (refl, refl, sound.increment_some);
+      thresholds = (band.0, band.1, sound.increment_some);
       sums_fit = (
-        omega (arith, same_balance l.invariant more, r.balances l.i more, downward_small S sound),
+        omega (arith, band, same_balance l.invariant more, r.balances l.i more, downward_small S sound),
         omega (
           arith,
+          band,
           same_effective l.invariant more,
           r.effective l.i more,
           upward_small S sound,
@@ -66,6 +42,6 @@ returns c =
     let l = c.loop-i in
     record {
       stepped = updating_end (settings_of a.settings) a.scalars a.identities.now a.validators.now _ l.i
-          (omega arith) l.invariant;
+          c.loop-i-test.false l.invariant;
       scalars_kept = refl;
     }

@@ -1,13 +1,11 @@
 use Rattle.std.proofs.Common.{ap, not}
-use mathlib.Core.Bool.{Bool}
-use mathlib.Core.List.{List, [], ◌∷◌}
+use mathlib.Core.List.{[], ◌∷◌}
 use lib.Dec.{leb}
 use lib.ListN.{length}
 use borrow.Author.Tests.{leb-true}
-use Rattle.records.specs.Books.{Tables, tables}
+use Rattle.records.specs.Books.{tables}
 use Rattle.slices.specs.Exported.{fit_room, fit_test}
 use Rattle.file_slices.specs.Read.{read_unfit, read_refused, read_done}
-use borrow.Author.Rules.{rules}
 use Rattle.file_slices.proofs.reader.read_books.Goals as goal
 
 pub returns-then-not-read_fits : goal.returns-then-not-read_fits

@@ -1,17 +1,14 @@
 use mathlib.Core.Path.{◌≡◌, sym, ◌∙◌}
 use mathlib.Core.Bool.{true}
-use borrow.Author.Tests.{not-true, not-false}
 use Rattle.file_format.specs.Books.{books_format}
 use Rattle.file_format.specs.File.{file_ok}
 use Rattle.books_reader.specs.Laws.{file_good}
 use Rattle.file_slices.specs.Read.{unfit_broken, unfit_whole}
-use borrow.Author.Rules.{rules}
 use Rattle.file_slices.proofs.reader.unfit_answer.Goals as goal
 
 pub returns-then-not-books_file_ok : goal.returns-then-not-books_file_ok
 returns-then-not-books_file_ok c =
-    let f = c.books_file_ok in
-    unfit_broken c.args.file.now (sym f.ensures ∙ c.if-not-books_file_ok.true)
+    c.number.ensures ∙ unfit_broken c.args.file.now (sym c.books_file_ok.ensures ∙ c.if-not-books_file_ok.true)
 
 pub settings_at-requires : goal.settings_at-requires
 settings_at-requires c =

@@ -2,7 +2,6 @@ use Rattle.std.proofs.Common.{ap, not}
 use mathlib.Core.List.{[]}
 use Rattle.slices.specs.Exported.{fit_room}
 use Rattle.file_slices.specs.Carried.{carried_unfit, carried_refused, carried_done}
-use borrow.Author.Rules.{rules}
 use Rattle.file_slices.proofs.runner.carry_out.Goals as goal
 
 pub returns-then-not-scalars_fit : goal.returns-then-not-scalars_fit

@@ -1,8 +1,8 @@
-use Rattle.std.proofs.Common.{ap, not}
+use Rattle.std.proofs.Common.{ap, not, refl}
+use Rattle.primitives.specs.Answers.{refusal_not_0}
 use mathlib.Core.List.{[]}
 use Rattle.slices.specs.Exported.{fit_room}
 use Rattle.file_slices.specs.Written.{written_unfit, written_refused, written_done}
-use borrow.Author.Rules.{rules}
 use Rattle.file_slices.proofs.writer.write_books.Goals as goal
 
 pub returns-then-not-scalars_fit : goal.returns-then-not-scalars_fit
@@ -13,14 +13,15 @@ returns-then-not-scalars_fit c =
 pub scalars_from-numbers-requires : goal.scalars_from-numbers-requires
 scalars_from-numbers-requires c = fit_room c.args.scalars.now [] c.scalars_fit.ensures (ap not c.if-not-scalars_fit.false)
 
-pub returns-then-file-ne-DONE : goal.returns-then-file-ne-DONE
-returns-then-file-ne-DONE c =
-    written_refused c.args.settings.now c.args.scalars.now
+pub returns-in-Err : goal.returns-in-Err
+returns-in-Err c =
+    rw c.number.ensures
+    (written_refused c.args.settings.now c.args.scalars.now
     c.settings_from-chain.ensures c.scalars_fit.ensures (ap not c.if-not-scalars_fit.false)
-    c.scalars_from-numbers.ensures c.write_books-file.ensures c.if-file-ne-DONE.true
+    c.scalars_from-numbers.ensures c.in-Err.ensures (refusal_not_0 _))
 
-pub returns : goal.returns
-returns c =
+pub returns-in-Ok : goal.returns-in-Ok
+returns-in-Ok c =
     written_done c.args.settings.now c.args.scalars.now c.settings_from-chain.ensures
     c.scalars_fit.ensures (ap not c.if-not-scalars_fit.false) c.scalars_from-numbers.ensures
-    c.write_books-file.ensures c.if-file-ne-DONE.false
+    c.in-Ok.ensures refl

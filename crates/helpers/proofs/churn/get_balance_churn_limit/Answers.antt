@@ -9,12 +9,12 @@ use Rattle.helpers.proofs.churn.get_balance_churn_limit.Goals as goal
 pub nonzero_div-churn_limit : goal.nonzero_div-churn_limit
 nonzero_div-churn_limit c = omega (arith, (settings_sound _ c.requires.settings_are_sound).quotient_some)
 
-pub nonzero_rem-rest : goal.nonzero_rem-rest
-nonzero_rem-rest c = omega (arith, (settings_sound _ c.requires.settings_are_sound).increment_some)
+pub nonzero_rem-result : goal.nonzero_rem-result
+nonzero_rem-result c = omega (arith, (settings_sound _ c.requires.settings_are_sound).increment_some)
 
 pub overflow_sub-result : goal.overflow_sub-result
 overflow_sub-result c =
-    let churn = c.max-churn.result.0 in
+    let churn = c.max-churn.result in
     omega (arith, mod-le churn c.args.settings.effective_balance_increment.0)
 
 pub returns : goal.returns

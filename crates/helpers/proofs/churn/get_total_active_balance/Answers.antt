@@ -13,7 +13,7 @@ overflow_add-sum c =
     let l = c.loop-i in
     omega (
       arith,
-      l.invariant.1 [],
+      l.invariant [],
       c.active_effective_balance_at-active.ensures [],
       total_step (active_effective_balance a.scalars.epoch.0) a.scalars.validators
           (validator_at [] a.validators.now) l.i (omega arith),
@@ -23,16 +23,14 @@ overflow_add-sum c =
 pub loop-i-preserved : goal.loop-i-preserved
 loop-i-preserved c =
     let a = c.args in
-    let l = c.loop-i in (
-      omega arith,
-      λ ids.
-          omega (
-            arith,
-            l.invariant.1 ids,
-            c.active_effective_balance_at-active.ensures ids,
-            total_step (active_effective_balance a.scalars.epoch.0) a.scalars.validators
-                (validator_at ids a.validators.now) l.i (omega arith),
-          ),
+    let l = c.loop-i in
+    λ ids.
+    omega (
+      arith,
+      l.invariant ids,
+      c.active_effective_balance_at-active.ensures ids,
+      total_step (active_effective_balance a.scalars.epoch.0) a.scalars.validators
+          (validator_at ids a.validators.now) l.i (omega arith),
     )
 
 pub returns : goal.returns
@@ -44,7 +42,7 @@ returns c =
     omega (
       arith,
       c.max.ensures,
-      l.invariant.1 ids,
+      l.invariant ids,
       total_end (active_effective_balance a.scalars.epoch.0) a.scalars.validators
           (validator_at ids a.validators.now) l.i (omega arith),
     )

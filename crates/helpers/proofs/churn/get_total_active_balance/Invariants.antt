@@ -1,6 +1,6 @@
 use mathlib.Core.Path.{◌≡◌}
 use mathlib.Core.List.{List}
-use Prim.Native.Nat.{ℕ, ◌+◌, ◌-◌, ◌≤◌}
+use Prim.Native.Nat.{ℕ, ◌+◌}
 use lib.ListN.{drop}
 use Rattle.lists.specs.Base.{total}
 use Rattle.tables.specs.Rows.{rows}
@@ -10,10 +10,7 @@ use Rattle.helpers.proofs.churn.get_total_active_balance.Given as goal
 
 abbrev pub invariant-loop-i : goal.invariant-loop-i
 invariant-loop-i l =
-    (l.i ≤ l.n)
-    × ((ids : List ℕ)
-    → l.sum + total (active_effective_balance l.epoch.0) (drop l.i (rows l.n (validator_at ids l.validators)))
-    ≡ total (active_effective_balance l.epoch.0) (rows l.n (validator_at ids l.validators)))
-
-abbrev pub decreases-loop-i : goal.decreases-loop-i
-decreases-loop-i l = l.n - l.i
+    (ids : List ℕ)
+    → l.sum
+    + total (active_effective_balance l.epoch.0) (drop l.i (rows l.fn.scalars.validators (validator_at ids l.validators)))
+    ≡ total (active_effective_balance l.epoch.0) (rows l.fn.scalars.validators (validator_at ids l.validators))

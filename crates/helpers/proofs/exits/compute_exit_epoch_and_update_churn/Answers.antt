@@ -9,30 +9,22 @@ use Rattle.primitives.specs.Settings.{settings_of}
 use Rattle.records.specs.Books.{tables, books_of}
 use Rattle.helpers.proofs.exits.compute_exit_epoch_and_update_churn.Goals as goal
 
-pub assign_account-requires : goal.assign_account-requires
-assign_account-requires c =
+pub assign_account-requires-clause-churn_and_amount : goal.assign_account-requires-clause-churn_and_amount
+assign_account-requires-clause-churn_and_amount c =
     let a = c.args in
     let b = books_of a.scalars (tables [] a.validators.now [] [] []) in
     let some = activation_exit_churn_some (settings_of a.settings) b (settings_sound _ c.requires.settings_are_sound) in
     let churn = c.get_activation_exit_churn_limit-churn.ensures [] [] [] [] in
-    let accounts = c.requires.accounts in
-    record {
-      settings_are_sound = c.requires.settings_are_sound;
-      epochs_bound = (accounts.epoch, accounts.exit_epoch);
-      churn_and_amount = (omega arith, c.requires.amount_bound);
-    }
+    (omega arith, c.requires.amount_bound)
 
-pub returns : goal.returns
+pub returns-clause-assigned : goal.returns-clause-assigned
 unfolding compute_exit_epoch_and_update_churn books_of
-returns c = record {
-  assigned = λ ids ds ps cs.
-      let a = c.args in
-      let t = tables ids a.validators.now ds ps cs in
-      let left = a.scalars.exit_balance_to_consume.0 in
-      let earliest = a.scalars.earliest_exit_epoch.0 in
-      let activation_exit = compute_activation_exit_epoch (settings_of a.settings) (books_of a.scalars t) in
-      c.assign_account.ensures.assigned t
-      ∙ ap (λ (n : ℕ). assign_epoch left earliest activation_exit n a.amount.0)
-      (c.get_activation_exit_churn_limit-churn.ensures ids ds ps cs);
-  far_off = c.assign_account.ensures.far_off;
-}
+returns-clause-assigned c ids ds ps cs =
+    let a = c.args in
+    let t = tables ids a.validators.now ds ps cs in
+    let left = a.scalars.exit_balance_to_consume.0 in
+    let earliest = a.scalars.earliest_exit_epoch.0 in
+    let activation_exit = compute_activation_exit_epoch (settings_of a.settings) (books_of a.scalars t) in
+    c.assign_account.ensures.assigned t
+    ∙ ap (λ (n : ℕ). assign_epoch left earliest activation_exit n a.amount.0)
+    (c.get_activation_exit_churn_limit-churn.ensures ids ds ps cs)

@@ -1,5 +1,5 @@
 use mathlib.Core.Path.{◌≡◌}
-use Prim.Native.Nat.{◌+◌, ◌-◌, ◌≤◌}
+use Prim.Native.Nat.{◌+◌}
 use lib.ListN.{drop}
 use Rattle.lists.specs.Base.{total}
 use Rattle.tables.specs.Rows.{rows}
@@ -9,9 +9,5 @@ use Rattle.helpers.proofs.lookups.get_pending_balance_to_withdraw.Given as goal
 
 abbrev pub invariant-loop-k : goal.invariant-loop-k
 invariant-loop-k l =
-    (l.k ≤ l.n)
-    × (l.sum + total (owed_to l.i.0) (drop l.k (rows l.n (partial_at l.partials)))
-    ≡ total (owed_to l.i.0) (rows l.n (partial_at l.partials)))
-
-abbrev pub decreases-loop-k : goal.decreases-loop-k
-decreases-loop-k l = l.n - l.k
+    l.sum + total (owed_to l.i.0) (drop l.k (rows l.fn.scalars.partials (partial_at l.partials)))
+    ≡ total (owed_to l.i.0) (rows l.fn.scalars.partials (partial_at l.partials))

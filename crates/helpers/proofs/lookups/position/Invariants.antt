@@ -1,6 +1,6 @@
 use mathlib.Core.Path.{◌≡◌}
 use mathlib.Core.List.{List}
-use Prim.Native.Nat.{ℕ, ◌+◌, ◌-◌, ◌≤◌}
+use Prim.Native.Nat.{ℕ, ◌+◌}
 use lib.ListN.{drop}
 use Rattle.tables.specs.Rows.{rows}
 use Rattle.rules.specs.Helpers.{position}
@@ -9,10 +9,6 @@ use Rattle.helpers.proofs.lookups.position.Given as goal
 
 abbrev pub invariant-loop-i : goal.invariant-loop-i
 invariant-loop-i l =
-    (l.i ≤ l.n)
-    × ((vs : List ℕ)
-    → l.i + position l.public_key (drop l.i (rows l.n (validator_at l.identities vs)))
-    ≡ position l.public_key (rows l.n (validator_at l.identities vs)))
-
-abbrev pub decreases-loop-i : goal.decreases-loop-i
-decreases-loop-i l = l.n - l.i
+    (vs : List ℕ)
+    → l.i + position l.public_key (drop l.i (rows l.fn.scalars.validators (validator_at l.identities vs)))
+    ≡ position l.public_key (rows l.fn.scalars.validators (validator_at l.identities vs))

@@ -12,5 +12,5 @@ returns c =
     let a = c.args in
     validator_stored a.identities.now a.validators.now a.n (plain_validator a.v)
     c.requires.0 c.requires.1 (key-size) (credentials-size)
-    c.put48.ensures (rw c.credentials_place-credentials.ensures at c.put32.ensures)
-    c.put_words.ensures
+    c.put_bytes.ensures (rw c.credentials_place-credentials.ensures at c.put_bytes-2.ensures)
+    (rw c.words.ensures at c.put_row.ensures)

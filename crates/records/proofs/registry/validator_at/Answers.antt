@@ -7,9 +7,9 @@ pub returns : goal.returns
 returns c =
     let ids = c.args.identities.now in
     let i = c.args.i.0 in
-    let key = c.bytes48-public_key.ensures ∙ key_read ids i c.requires.0 in
+    let key = c.bytes_at-public_key.ensures ∙ key_read ids i c.requires.0 in
     let credentials =
-    c.bytes32-withdrawal_credentials.ensures
+    c.bytes_at-withdrawal_credentials.ensures
     ∙ ap (λ at. take 32 (drop at ids)) c.credentials_place.ensures
     ∙ credentials_read ids i c.requires.0 in
     λ j. record {

@@ -10,7 +10,7 @@ penalty_taken-taken-requires-clause-validators_stored c = (sum_known _ _ _ c.req
 
 pub held_after-total-requires : goal.held_after-total-requires
 held_after-total-requires c =
-    let call = c.carry_out_call-outcome in
+    let call = c.carry_out_call-answer in
     let left = still_accepted c.requires.accepted call.ensures (record {
       identities = call.auto.identities;
       validators = call.auto.validators;
@@ -19,18 +19,21 @@ held_after-total-requires c =
       consolidations = call.auto.consolidations;
     }) in
     let sums = followed_in call.ensures c.requires.holds (sum_small _ _ _ left refl)
-    (c.penalty_taken-taken.ensures _ _ _ _) in record {
+    (c.penalty_taken-taken.ensures _ _ _ _) in
+    rw (c.unwrap_or-after.ensures, c.answer_number-number.ensures)
+    (record {
       held_ready = sum_known _ _ _ left;
       call_at = c.requires.call_at;
       code_read = c.code_at-code.ensures;
       followed = sums;
-    }
+    })
 
 pub returns : goal.returns
 returns c =
     let code = c.code_at-code.ensures ∙ sym (code_written c.requires.call_at) in
-    let total = c.held_after-total.ensures ∙ sym (held_form _ _) in record {
-      written = line_written c.carry_out_call-outcome.result.number c.carry_out_call-outcome.ensures
-          c.put_line.ensures code total;
+    let total = c.held_after-total.ensures ∙ sym (held_form _ _) in
+    let called = rw (← c.unwrap_or-after.ensures, ← c.answer_number-number.ensures) at c.carry_out_call-answer.ensures in
+    record {
+      written = line_written c.answer_number-number.result called c.put_line.ensures code total;
       still_holds = total;
     }

@@ -1,10 +1,7 @@
+use Rattle.std.proofs.Common.{add-zero}
+use Rattle.tables.specs.Rows.{rows}
 use Rattle.slices.proofs.withdrawals.withdrawal_at.Goals as goal
 
 pub returns : goal.returns
-returns c =
-    rw (
-      c.number_at-index.ensures,
-      c.number_at-validator.ensures,
-      c.address_at-address.ensures,
-      c.number_at-amount.ensures,
-    )
+unfolding rows
+returns c = rw (c.row_at.ensures, c.row_at-2.ensures, add-zero)

@@ -1,42 +1,16 @@
-use Rattle.std.proofs.Common.{not}
-use mathlib.Core.Path.{ap}
-use mathlib.Core.Bool.{Bool}
-use mathlib.Core.List.{List, [], ◌∷◌}
-use Prim.Native.Nat.{◌/◌}
-use lib.Dec.{leb}
-use lib.ListN.{length}
+use Rattle.std.proofs.Common.{ap, not, [], ◌∷◌, ◌/◌, leb, length, rules}
 use Rattle.rules.specs.Calls.{withdrawals}
 use Rattle.expected_withdrawals.specs.Expected.{handed_list}
 use Rattle.records.specs.Books.{called_as}
-use Rattle.slices.specs.Exported.{fit_room, exported_unfit, exported_called}
-use borrow.Author.Rules.{rules}
+use Rattle.slices.specs.Exported.{fit_room, exported_framed}
 use Rattle.solarbasil.proofs.payments.solarbasil_process_withdrawals.Goals as goal
 
-pub returns-then-not-handed_fit : goal.returns-then-not-handed_fit
-returns-then-not-handed_fit c =
-    exported_unfit c.settings_from-chain.ensures c.handed_fit.ensures (ap not c.if-not-handed_fit.true) c.unfit_answer.ensures
-
-pub scalars_from-before-requires : goal.scalars_from-before-requires
-scalars_from-before-requires c =
-    let others = leb c.args.count (length c.args.records.now / 3)
-    ∷ leb c.args.count (length c.args.addresses.now / 20)
-    ∷ [] in
-    fit_room c.args.scalars.now
-    others
-    c.handed_fit.ensures (ap not c.if-not-handed_fit.false)
-
-pub store_scalars-requires : goal.store_scalars-requires
-store_scalars-requires c =
-    let others = leb c.args.count (length c.args.records.now / 3)
-    ∷ leb c.args.count (length c.args.addresses.now / 20)
-    ∷ [] in
-    fit_room c.args.scalars.now
-    others
-    c.handed_fit.ensures (ap not c.if-not-handed_fit.false)
+pub exported-requires-clause-room : goal.exported-requires-clause-room
+exported-requires-clause-room c = λ e. fit_room c.args.scalars.now (leb c.args.count (length c.args.records.now / 3) ∷ leb c.args.count (length c.args.addresses.now / 20) ∷ []) c.handed_fit-fits.ensures (ap not e)
 
 pub returns : goal.returns
 returns c =
-    exported_called c.settings_from-chain.ensures c.handed_fit.ensures
-    (ap not c.if-not-handed_fit.false) c.scalars_from-before.ensures (called_as (ap
-    (λ l. withdrawals (handed_list l c.args.count)) c.withdrawals_from-list.ensures)
-    c.process_withdrawals-outcome.ensures) c.store_scalars.ensures
+    let done = c.exported.ensures in
+    exported_framed c.handed_fit-fits.ensures
+    (λ e. let q = done.fit e in (q.0, called_as (ap (λ l. withdrawals (handed_list l c.args.count)) c.withdrawals_from-list.ensures) (search rules), q.2, q.3))
+    (λ e. let q = done.unfit e in (q.0, q.1, search rules))

@@ -1,14 +1,12 @@
-use Rattle.std.proofs.Common.{ap, not}
+use Rattle.std.proofs.Common.{ap, not, arith}
 use mathlib.Core.Path.{ap₂}
-use mathlib.Core.Bool.{Bool}
-use mathlib.Core.List.{List, [], ◌∷◌}
+use mathlib.Core.List.{[], ◌∷◌}
 use lib.Dec.{eqb}
 use lib.ListN.{length}
 use borrow.Author.Tests.{eqb-true}
 use Rattle.rules.specs.Calls.{withdrawal_request}
 use Rattle.records.specs.Books.{called_as}
-use Rattle.slices.specs.Exported.{fit_room, fit_test, exported_unfit, exported_called}
-use borrow.Author.Rules.{rules}
+use Rattle.slices.specs.Exported.{fit_room, fit_test, exported_unfit, exported_answered}
 use Rattle.solarbasil.proofs.requests.solarbasil_process_execution_layer_withdrawal_request.Goals as goal
 
 pub returns-then-not-request_fits : goal.returns-then-not-request_fits
@@ -22,21 +20,21 @@ scalars_from-before-requires c =
     others
     c.request_fits.ensures (ap not c.if-not-request_fits.false)
 
-pub address_from-address-requires : goal.address_from-address-requires
-address_from-address-requires c =
+pub fixed-address-requires : goal.fixed-address-requires
+fixed-address-requires c =
     let others = eqb (length c.args.source_address.now) 20 ∷ eqb (length c.args.public_key.now) 48 ∷ [] in
     let t = fit_test c.args.scalars.now others c.request_fits.ensures (ap not c.if-not-request_fits.false) 0 in
-    eqb-true (length c.args.source_address.now) 20 t
+    (omega arith, eqb-true (length c.args.source_address.now) 20 t)
 
-pub key_from-key-requires : goal.key_from-key-requires
-key_from-key-requires c =
+pub fixed-key-requires : goal.fixed-key-requires
+fixed-key-requires c =
     let others = eqb (length c.args.source_address.now) 20 ∷ eqb (length c.args.public_key.now) 48 ∷ [] in
     let t = fit_test c.args.scalars.now others c.request_fits.ensures
     (ap not c.if-not-request_fits.false) 1 in
-    eqb-true (length c.args.public_key.now) 48 t
+    (omega arith, eqb-true (length c.args.public_key.now) 48 t)
 
-pub store_scalars-requires : goal.store_scalars-requires
-store_scalars-requires c =
+pub store_answer-requires : goal.store_answer-requires
+store_answer-requires c =
     let others = eqb (length c.args.source_address.now) 20 ∷ eqb (length c.args.public_key.now) 48 ∷ [] in
     fit_room c.args.scalars.now
     others
@@ -44,9 +42,9 @@ store_scalars-requires c =
 
 pub returns : goal.returns
 returns c =
-    exported_called c.settings_from-chain.ensures c.request_fits.ensures
+    exported_answered _ c.settings_from-chain.ensures c.request_fits.ensures
     (ap not c.if-not-request_fits.false) c.scalars_from-before.ensures (called_as
     (ap₂ (λ a k. withdrawal_request a k c.args.amount)
-    c.address_from-address.ensures c.key_from-key.ensures)
-    c.process_execution_layer_withdrawal_request-outcome.ensures)
-    c.store_scalars.ensures
+    c.fixed-address.ensures c.fixed-key.ensures)
+    c.process_execution_layer_withdrawal_request-answer.ensures)
+    c.store_answer.ensures.number c.store_answer.ensures.stored

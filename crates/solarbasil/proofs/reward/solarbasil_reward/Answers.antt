@@ -1,21 +1,13 @@
-use Rattle.std.proofs.Common.{ap, not}
-use borrow.Author.Rules.{rules}
-use mathlib.Core.List.{[]}
-use Rattle.slices.specs.Exported.{fit_room, exported_unfit, exported_called}
+use Rattle.std.proofs.Common.{ap, not, [], rules}
+use Rattle.slices.specs.Exported.{fit_room, exported_framed}
 use Rattle.solarbasil.proofs.reward.solarbasil_reward.Goals as goal
 
-pub returns-then-not-scalars_fit : goal.returns-then-not-scalars_fit
-returns-then-not-scalars_fit c =
-    exported_unfit c.settings_from-chain.ensures c.scalars_fit.ensures (ap not c.if-not-scalars_fit.true) c.unfit_answer.ensures
-
-pub scalars_from-before-requires : goal.scalars_from-before-requires
-scalars_from-before-requires c = fit_room c.args.scalars.now [] c.scalars_fit.ensures (ap not c.if-not-scalars_fit.false)
-
-pub store_scalars-requires : goal.store_scalars-requires
-store_scalars-requires c = fit_room c.args.scalars.now [] c.scalars_fit.ensures (ap not c.if-not-scalars_fit.false)
+pub exported-requires-clause-room : goal.exported-requires-clause-room
+exported-requires-clause-room c = λ e. fit_room c.args.scalars.now [] c.scalars_fit-fits.ensures (ap not e)
 
 pub returns : goal.returns
 returns c =
-    exported_called c.settings_from-chain.ensures c.scalars_fit.ensures
-    (ap not c.if-not-scalars_fit.false) c.scalars_from-before.ensures c.reward-outcome.ensures
-    c.store_scalars.ensures
+    let done = c.exported.ensures in
+    exported_framed c.scalars_fit-fits.ensures
+    (λ e. let q = done.fit e in (q.0, search rules, q.2, q.3))
+    (λ e. let q = done.unfit e in (q.0, q.1, search rules))

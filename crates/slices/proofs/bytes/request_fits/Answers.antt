@@ -1,5 +1,0 @@
-use Rattle.slices.specs.Exported.{fit_three}
-use Rattle.slices.proofs.bytes.request_fits.Goals as goal
-
-pub returns : goal.returns
-returns c = fit_three _ _ _

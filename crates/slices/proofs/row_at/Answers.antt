@@ -1,0 +1,6 @@
+use Rattle.std.proofs.Common.{rules}
+use Rattle.slices.proofs.Made.{made_rows}
+use Rattle.slices.proofs.row_at.Goals as goal
+
+pub returns : goal.returns
+returns g c = made_rows _ c.from_fn.ensures.items (λ j y q k. search rules)

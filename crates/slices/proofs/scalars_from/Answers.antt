@@ -1,0 +1,6 @@
+use Rattle.tables.specs.Rows.{rows}
+use Rattle.slices.proofs.scalars_from.Goals as goal
+
+pub returns : goal.returns
+unfolding rows
+returns c = rw c.row_at.ensures at c.from.ensures
