@@ -88,7 +88,8 @@ def places(commit):
                 found[1].append((name, text.count("\n", 0, m.start()) + 1, f"enum {m.group(1)}: own Option or Result"))
         for m in re.finditer(r"(?ms)^(?:pub )?struct (\w+)[^;{]*\{(.*?)^\}", text):
             fields = re.findall(r"(\w+): ([^,\n]+)", m.group(2))
-            kinds = [k for f, k in fields if f in ("number", "within", "good", "ok", "done", "code") and k in ("u8", "bool")]
+            flags = ("number", "within", "good", "ok", "done", "code")
+            kinds = [k for f, k in fields if f in flags and k in ("u8", "bool")]
             line = text.count("\n", 0, m.start()) + 1
             if kinds and len(fields) > 1:
                 found[1].append((name, line, f"struct {m.group(1)}: a number or a flag beside a value"))
@@ -109,15 +110,13 @@ def places(commit):
                         found[3].append((name, line, f"fn {fn}: a counted loop"))
             if re.fullmatch(r"min|max|min_usize|saturating_sub|same_\w+|has_same_\w+", fn):
                 found[4].append((name, line, f"fn {fn}: comparison by hand"))
-            if re.search(r"(?:_of|_from|from_row|_numbers|numbers_of|scalars_in|settings_in|_scalars)$", fn) and re.search(
-                r"\[u64; \d+\]|-> Settings|-> Scalars", sig
-            ):
+            converts = re.search(r"(?:_of|_from|from_row|_numbers|numbers_of|scalars_in|settings_in|_scalars)$", fn)
+            if converts and re.search(r"\[u64; \d+\]|-> Settings|-> Scalars", sig):
                 found[4].append((name, line, f"fn {fn}: conversion by hand"))
             if re.search(r"put_decimal|digit\(", body) or fn == "digit":
                 found[4].append((name, line, f"fn {fn}: printing by hand"))
-            tables = sum(
-                t in re.findall(r"(\w+): ", sig) for t in ("identities", "validators", "deposits", "partials", "consolidations")
-            )
+            named = re.findall(r"(\w+): ", sig)
+            tables = sum(t in named for t in ("identities", "validators", "deposits", "partials", "consolidations"))
             if tables >= 3:
                 found[5].append((name, line, f"fn {fn}: {tables} tables side by side"))
             if re.search(r"(?:out|bytes|file): &(?:mut )?\[u8\],\s*(?:k|at|size|p): usize", sig):

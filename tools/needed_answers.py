@@ -1,8 +1,8 @@
 #!/usr/bin/env python3
 """Drops the answers that the check finds alone: python3 tools/needed_answers.py CRATE..   (at the top of a clone)
 
-Each Answers.antt is set aside, the crate is checked with its goals open, and the answers of the goals that stay open are
-written back, until the crate proves. A crate that does not prove in five rounds keeps what it had.
+Each Answers.antt is set aside, the crate is checked with its goals open, and the answers of the goals that stay open
+are written back, until the crate proves. A crate that does not prove in five rounds keeps what it had.
 """
 import pathlib
 import re
@@ -46,7 +46,9 @@ def check(crate):
 
 
 def proved(out):
-    return "logic=proved" in out.split("crate ")[-1] or re.search(r"(?m)^holes=0$", out) and "the crate is not proved" not in out
+    if "logic=proved" in out.split("crate ")[-1]:
+        return True
+    return re.search(r"(?m)^holes=0$", out) and "the crate is not proved" not in out
 
 
 def open_goals(out, function):
@@ -70,7 +72,8 @@ def write(path, head, named, kept):
     wanted = set(kept)
     while True:
         text = "\n".join(b for n, b in named if n in wanted)
-        more = {n for n, b in named if n not in wanted and f"goal.{n}" not in b and re.search(rf"(?<![\w-]){re.escape(n)}(?![\w-])", text)}
+        lemmas = [n for n, b in named if n not in wanted and f"goal.{n}" not in b]
+        more = {n for n in lemmas if re.search(rf"(?<![\w-]){re.escape(n)}(?![\w-])", text)}
         if not more:
             break
         wanted |= more
@@ -120,7 +123,8 @@ def main():
         before = sum(len(n) for _, n in split.values())
         after = sum(len(k) for k in kept.values())
         lines = sum(p.read_text().count("\n") for p in files.values() if p.exists())
-        print(f"{crate}: {after} of {before} answers stay, {lines} lines of {sum(t.count(chr(10)) for t in old.values())}")
+        lines_before = sum(t.count("\n") for t in old.values())
+        print(f"{crate}: {after} of {before} answers stay, {lines} lines of {lines_before}")
 
 
 main()
