@@ -1,5 +1,6 @@
 -- Laws of conjunctions, and of sums that are tested on the way.
-use Rattle.std.specs.Prelude.{◌≡◌, ℕ, ◌+◌, ◌-◌, ◌<◌, ◌≤◌, min, Bool, true, false, ◌&&◌, List, [], ◌∷◌, drop, nat_le, refl, Option, Some, None}
+use Rattle.std.specs.Prelude.{◌≡◌, ℕ, ◌+◌, ◌-◌, ◌<◌, ◌≤◌, min, Bool, true, false, ◌&&◌, List, [], ◌∷◌, drop, nat_le}
+use Rattle.std.specs.Prelude.{refl, Option, Some, None}
 use Rattle.std.proofs.Common.{sym, ap, ◌∙◌, leb-true, leb-false, le-leb}
 use native.Mathlib.Omega.{arith}
 use Rattle.std.proofs.lemmas.Bool.{lt-leb}
@@ -59,7 +60,8 @@ every_both t u (x ∷ xs) e =
 pub bounded_some : {x : Gwei} {n : ℕ} → x.0 ≡ n → x.0 ≤ BOUND → Some x ≡ bounded n
 unfolding bounded
 bounded_some {x} {n} e h =
-    ap (λ (k : ℕ). Some (record { 0 = k })) e ∙ sym (if_true (nat_le n BOUND) _ _ (le-leb n BOUND (omega (arith, e, h))))
+    ap (λ (k : ℕ). Some (record { 0 = k })) e
+    ∙ sym (if_true (nat_le n BOUND) _ _ (le-leb n BOUND (omega (arith, e, h))))
 
 pub bounded_none : {n : ℕ} → BOUND < n → None ≡ bounded n
 unfolding bounded

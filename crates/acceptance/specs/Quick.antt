@@ -1,5 +1,6 @@
 -- What one pass over the bits of all validators tells: where it finds them small, they pass their tests.
-use Rattle.std.specs.Prelude.{◌≡◌, Some, ℕ, ◌+◌, ◌*◌, ◌%◌, ◌^◌, ◌<◌, ◌≤◌, Bool, true, false, ◌||◌, List, ◌==◌, bit_or, nat_le, refl}
+use Rattle.std.specs.Prelude.{◌≡◌, Some, ℕ, ◌+◌, ◌*◌, ◌%◌, ◌^◌, ◌<◌, ◌≤◌, Bool, true, false, ◌||◌, List, ◌==◌, bit_or}
+use Rattle.std.specs.Prelude.{nat_le, refl}
 use Rattle.std.proofs.Common.{ap, ap₂, arith, below_more, le-leb, leb-false, eq-eqb}
 use Rattle.std.specs.Int.Bits.{or_add_and}
 use Rattle.std.proofs.lemmas.Nat.{and_le_l, and_le_r}
@@ -79,7 +80,8 @@ small_within s ids =
 
 pub small_sum : (most : ℕ) (ws : List ℕ) (n sum : ℕ) → n ≤ 2 ^ 16 → ((j : ℕ) → j < n → Small most ws j)
     → sum ≡ total (λ x. x % 2 ^ 46) (rows n (balance_at ws)) → (ids : List ℕ)
-    → Some (record { 0 = sum }) ≡ bounded (tested_sum (validator_within most) (λ v. v.balance) 0 (rows n (validator_at ids ws)))
+    → Some (record { 0 = sum })
+    ≡ bounded (tested_sum (validator_within most) (λ v. v.balance) 0 (rows n (validator_at ids ws)))
 small_sum most ws n sum f small e ids =
     let of = validator_at ids ws in
     let exact : total (λ v. v.balance) (rows n of) ≡ total (λ x. x % 2 ^ 46) (rows n (balance_at ws)) =

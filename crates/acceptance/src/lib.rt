@@ -2,6 +2,7 @@
 
 #![tactic(auto)]
 
+pub mod amounts; // the sum of amounts that are tested
 pub mod passes; // one pass over each table
 pub mod quick; // one pass over the bits of all validators
 pub mod record; // the tests of one record
@@ -18,6 +19,7 @@ ghost use Rattle.acceptance.specs.Tests.{scalars_within};
 ghost use Rattle.acceptance.specs.Held.{held_if_sound, HeldReady};
 ghost use Rattle.acceptance.specs.Total.{total_given};
 
+use crate::amounts::{Deposits, Partials};
 use primitives::answers::Refusal;
 use primitives::{BOUND, Gwei, Scalars, Settings};
 use records::books::Books;
@@ -107,7 +109,7 @@ pub fn scalars_within(settings: Settings, scalars: Scalars) -> bool
         & (scalars.earliest_consolidation_epoch.0 <= BOUND)
 }
 
-// What sound books hold; none where the books are unsound. The scalars first: they say how many records each pass may
+// What sound books hold; None where the books are unsound. The scalars first: they say how many records each pass may
 // read.
 pub fn books_held(settings: Settings, books: &Books<'_>) -> Option<Gwei>
     requires { enough_room (settings_of settings) (lent_room books.now) ≡ true }
@@ -120,8 +122,18 @@ pub fn books_held(settings: Settings, books: &Books<'_>) -> Option<Gwei>
     let n = scalars.validators;
     let most = settings.max_effective_balance_electra;
     let balances = passes::validators_sum(most, books.validators, n)?;
-    let held = passes::deposits_sum(balances, books.deposits, scalars.deposits, n)?;
-    passes::partials_sum(books.partials, scalars.partials, n)?;
+    let held = amounts::sum(
+        Deposits { validators: n },
+        balances,
+        books.deposits,
+        scalars.deposits,
+    )?;
+    amounts::sum(
+        Partials { validators: n },
+        Gwei(0),
+        books.partials,
+        scalars.partials,
+    )?;
     if !passes::consolidations_in(books.consolidations, scalars.consolidations, n) {
         return None;
     }

@@ -16,6 +16,7 @@ const SMALL: u64 = 0x4000_0000_0000;
 
 // At most BOUND only where the effective balance is at most `most` and the epochs are within: what is left of `most`
 // is far above BOUND where the effective balance is larger, and an epoch of one more is 0 for FAR.
+// The bound on i stays a clause: it is the one that indexing a slice asks for.
 fn validator_bits(most: Gwei, validators: &[u64], i: ValidatorIndex) -> u64
     requires { i.0 < validators_fit validators.now }
     ensures { result ≤ rule.BOUND → Within most.0 validators.now i.0 }
@@ -32,7 +33,7 @@ fn validator_bits(most: Gwei, validators: &[u64], i: ValidatorIndex) -> u64
     effective_balance.0 | left | eligibility | activation | exit | withdrawable
 }
 
-// The sum of the first n balances where all are small; else none.
+// The sum of the first n balances where all are small; else None.
 pub fn small_sum(most: Gwei, validators: &[u64], n: usize) -> Option<Gwei>
     requires { (n ≤ validators_fit validators.now) × (n ≤ 2 ^ 16) }
     ensures { IfSome result (λ sum.

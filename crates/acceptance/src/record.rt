@@ -34,6 +34,7 @@ pub fn epochs_within(
 }
 
 // Effective balance at most `most`, flag and epochs of validator i.
+// The bound on i stays a clause: it is the one that indexing a slice asks for.
 pub fn validator_within(most: Gwei, validators: &[u64], i: ValidatorIndex) -> bool
     requires { i.0 < validators_fit validators.now }
     ensures { (ids : List ℕ) → result ≡ validator_within most.0 (validator_at ids validators.now i.0) }

@@ -1,6 +1,6 @@
 -- The facts that the functions are proved by.
 use Rattle.std.specs.Prelude.{◌≡◌, refl, Bool, true, false, List, map, ℕ, ◌*◌, ◌/◌, ◌^◌, ◌≤◌, ◌<◌, min, length}
-use Rattle.std.specs.Prelude.{take, drop}
+use Rattle.std.specs.Prelude.{take, drop, Result, Ok, Err, MatchResult}
 use Rattle.std.proofs.Common.{sym, ◌∙◌, length-append, length-take-le, lt-ltb, le-ltb, ne_eqb}
 use Rattle.std.proofs.Math.Path.{ap}
 use Rattle.std.proofs.Math.Option.{Option, some, none}
@@ -11,6 +11,9 @@ use Rattle.lists.specs.Laws.{if_true, if_false}
 use Rattle.rules.specs.Types as rule
 use Rattle.rules.specs.Calls.{Operation, handed_refusal, run}
 use Rattle.conservation.specs.Accepted.{run_accepted}
+use Rattle.primitives.specs.declared.Scalars.{Scalars}
+use Rattle.primitives.specs.declared.answers.Refusal.{Refusal}
+use Rattle.primitives.specs.Answers.{refusal_number, refusal_not_0}
 use Rattle.primitives.specs.Settings.{settings_of}
 use Rattle.records.specs.Books.{Tables, tables, books_of, room_of, call_on}
 use Rattle.records.specs.Fixed.{SameSizes}
@@ -23,7 +26,7 @@ use Rattle.file_format.specs.Calls.{call, calls_format}
 use Rattle.file_format.specs.Answers.{opened_answer, read_answer}
 use Rattle.calls_reader.specs.Calls.{good_calls, calls_read}
 use Rattle.books_reader.specs.declared.Opened.{Opened}
-use Rattle.books_reader.specs.Read.{blank, BooksRead}
+use Rattle.books_reader.specs.Read.{BooksRead}
 use Rattle.table_text.specs.Lines.{lines_of}
 use Rattle.table_text.specs.Text.{table_text, refused_text, Printed}
 use Rattle.table_text.specs.Theorems.{lines_read}
@@ -32,11 +35,11 @@ use Rattle.runs.specs.InPlace.{calls_on, same_room}
 use Rattle.runs.specs.Promise.{listed_answer, carry_out_answer, CarriedOut, done_books}
 use Rattle.runs.specs.Steps.{many_size}
 use Rattle.books_output.specs.declared.files.Closing.{Closing}
-use Rattle.books_output.specs.Files.{Files, refused, accepted, program_room, program_calls, short_enough}
+use Rattle.books_output.specs.Files.{refused, program_room, program_calls, short_enough}
 use Rattle.books_output.specs.Files.{with_calls, opened, files}
 use Rattle.books_output.specs.Output.{output, most_printed}
 use Rattle.books_output.specs.Promise.{BooksOutput}
-use Rattle.books_output.specs.Carried.{OpeningRead, Done, CarriedFiles}
+use Rattle.books_output.specs.Carried.{Opens, Done}
 
 -- ---- files that are short enough
 
@@ -71,35 +74,27 @@ opened_accepted : (S : rule.Settings) (b : rule.Books) (calls : Option (List Ope
 unfolding when◌then◌else◌
 opened_accepted S b calls h = rw h
 
-pub opening_too_long : (bs : List ℕ) (t : Tables) {r : Opened} → room_of t ≡ program_room → 2 ^ 16 < length bs
-    → r ≡ blank 60 → OpeningRead bs t r
-unfolding files
-opening_too_long bs t {r} m h e =
-    let n : r.number ≡ 60 = ap (λ o. o.number) e in
-    let none_read = too_long read_books bs h in
-    record {
-      room = m;
-      refused = λ z calls.
-          ap (λ o. opened o (short_enough read_calls calls)) none_read ∙ ap refused (sym n);
-      books = λ z. let f : ⊥ = omega (arith, n, z) in absurd f;
-      accepted = λ z. let f : ⊥ = omega (arith, n, z) in absurd f;
-    }
+module _ (bs : List ℕ) where
+  pub opening_too_long : 2 ^ 16 < length bs → (calls : List ℕ) → files bs calls ≡ refused 60
+  unfolding files
+  opening_too_long h calls = ap (λ o. opened o (short_enough read_calls calls)) (too_long read_books bs h)
 
-pub opening_read : (bs : List ℕ) (t u : Tables) {r : Opened} → room_of t ≡ program_room → SameSizes u t
-    → length bs ≤ 2 ^ 16 → BooksRead bs t u r → OpeningRead bs u r
-unfolding files read_answer
-opening_read bs t u {r} m k h b =
-    let read = is_read read_books bs h in
-    let answer : r.number ≡ opened_answer program_room (read_books bs) =
-    b.number ∙ ap (λ x. opened_answer x (read_books bs)) m in
-    record {
-      room = same_room k ∙ m;
-      refused = λ z calls.
-          ap (λ o. opened o (short_enough read_calls calls)) read
-          ∙ opened_refused (read_books bs) (short_enough read_calls calls) answer z;
-      books = λ z. read ∙ b.books z;
-      accepted = λ z. sym (ap (opened_answer program_room) (b.books z)) ∙ sym answer ∙ z;
-    }
+  pub opening_read : (t u : Tables) (r : Result Opened Refusal) → room_of t ≡ program_room → length bs ≤ 2 ^ 16
+      → BooksRead bs t u r
+      → MatchResult r (Opens bs u) (λ e. (calls : List ℕ) → files bs calls ≡ refused (refusal_number e))
+  unfolding files read_answer
+  opening_read t u (Ok o) m h b =
+      let n : 0 ≡ opened_answer program_room (read_books bs) =
+      b.number ∙ ap (λ x. opened_answer x (read_books bs)) m in
+      record {
+        books = is_read read_books bs h ∙ b.books;
+        accepted = sym (ap (opened_answer program_room) b.books) ∙ sym n;
+      }
+  opening_read t u (Err e) m h b = λ calls.
+      let n : refusal_number e ≡ opened_answer program_room (read_books bs) =
+      b.number ∙ ap (λ x. opened_answer x (read_books bs)) m in
+      ap (λ o. opened o (short_enough read_calls calls)) (is_read read_books bs h)
+      ∙ opened_refused (read_books bs) (short_enough read_calls calls) n (refusal_not_0 e)
 
 -- ---- the calls
 
@@ -119,12 +114,7 @@ calls_few bs {os} e = go (file_ok calls_format bs) refl
         let y : ⊥ = omega (arith, z) in
         absurd y
 
--- the number of a refusal, whatever else is returned
-pub refused_files : {f : Files} {u : Tables} {results : List ℕ} {r : Closing} {n : ℕ} → r.number ≡ n → (n ≡ 0 → ⊥)
-    → f ≡ refused n → CarriedFiles f u results r
-refused_files e z p = record { refused = λ _. p ∙ ap refused (sym e); done = λ d. absurd (z (sym e ∙ d)) }
-
-module _ {bs : List ℕ} {u : Tables} {o : Opened} (x : OpeningRead bs u o) (z : o.number ≡ 0) (calls : List ℕ) where
+module _ {bs : List ℕ} {u : Tables} {o : Opened} (x : Opens bs u o) (calls : List ℕ) where
   abbrev S : rule.Settings
   S = settings_of o.settings
 
@@ -134,70 +124,81 @@ module _ {bs : List ℕ} {u : Tables} {o : Opened} (x : OpeningRead bs u o) (z :
   files_opened : files bs calls ≡ with_calls S b (short_enough read_calls calls)
   unfolding files
   files_opened =
-      ap (λ p. opened p (short_enough read_calls calls)) (x.books z)
-      ∙ opened_accepted S b (short_enough read_calls calls) (x.accepted z)
+      ap (λ p. opened p (short_enough read_calls calls)) x.books
+      ∙ opened_accepted S b (short_enough read_calls calls) x.accepted
 
   pub calls_too_long : 2 ^ 16 < length calls → files bs calls ≡ refused 60
   calls_too_long h = files_opened ∙ ap (with_calls S b) (too_long read_calls calls h)
 
-  same_program_calls : (os : List Operation) → calls_on u os ≡ program_calls os
-  same_program_calls os = ap (λ m. map (λ op. record { room = m; operation = op }) os) x.room
+  module _ (h : length calls ≤ 2 ^ 16) (m : room_of u ≡ program_room) {w : Tables} {before after : List ℕ}
+      (room : 29997 ≡ length before) {n : ℕ} {s : Scalars} {count : ℕ}
+      (c : CarriedOut S o.scalars u w calls before after n s count) where
+    same_program_calls : (os : List Operation) → calls_on u os ≡ program_calls os
+    same_program_calls os = ap (λ m. map (λ op. record { room = m; operation = op }) os) m
 
-  listed : (space : ℕ) → carry_out_answer S b (room_of u) calls space ≡ listed_answer space (read_calls calls)
-  unfolding carry_out_answer when◌then◌else◌
-  listed space =
-      let h : handed_refusal S b (room_of u) ≡ 0 = ap (handed_refusal S b) x.room ∙ x.accepted z in
-      rw h
+    listed : (space : ℕ) → carry_out_answer S b (room_of u) calls space ≡ listed_answer space (read_calls calls)
+    unfolding carry_out_answer when◌then◌else◌
+    listed space =
+        let h : handed_refusal S b (room_of u) ≡ 0 = ap (handed_refusal S b) m ∙ x.accepted in
+        rw h
 
-  module _ (h : length calls ≤ 2 ^ 16) {w : Tables} {before after : List ℕ} {r : Closing}
-      (same : r.settings ≡ o.settings) (k : SameSizes w u) (room : 29997 ≡ length before)
-      (c : CarriedOut S o.scalars u w calls before after r.number r.scalars r.count) where
     judged : (p : Option (List Operation)) → read_calls calls ≡ p → files bs calls ≡ with_calls S b p
     judged p e = files_opened ∙ ap (with_calls S b) (is_read read_calls calls h ∙ e)
 
-    answered : (p : Option (List Operation)) → read_calls calls ≡ p → r.number ≡ listed_answer (length before) p
+    answered : (p : Option (List Operation)) → read_calls calls ≡ p → n ≡ listed_answer (length before) p
     answered p e = c.number ∙ listed (length before) ∙ ap (listed_answer (length before)) e
 
-    all_done : (os : List Operation) → read_calls calls ≡ some os → r.number ≡ 0 → Done (files bs calls) w after r
-    all_done os e n =
-        let d = c.done os n e in
+    -- the results have room for the calls of every file
+    none_refused : (os : List Operation) → read_calls calls ≡ some os → n ≡ 0
+    none_refused os e =
+        let few = calls_few calls e in
+        answered (some os) e ∙ if_false _ 61 0 (le-ltb (length before) (3 * length os) (omega (arith, few)))
+
+    pub calls_refused : (n ≡ 0 → ⊥) → files bs calls ≡ refused n
+    calls_refused z = go (read_calls calls) refl
+      where
+        go : (p : Option (List Operation)) → read_calls calls ≡ p → files bs calls ≡ refused n
+        go none e = judged none e ∙ ap refused (sym (answered none e))
+        go (some os) e = absurd (z (none_refused os e))
+
+    all_done : (os : List Operation) → read_calls calls ≡ some os → n ≡ 0 → SameSizes w u
+        → Done (files bs calls) w after record { settings = o.settings; scalars = s; count = count }
+    all_done os e z k =
+        let d = c.done os z e in
         let cs = program_calls os in
         let as_read = same_program_calls os in
         let few = calls_few calls e in
-        let books : books_of r.scalars w ≡ run S b cs = done_books d ∙ ap (run S b) as_read in
-        let a = handed.accepted S b program_room (x.accepted z) in
+        let books : books_of s w ≡ run S b cs = done_books d ∙ ap (run S b) as_read in
+        let a = handed.accepted S b program_room x.accepted in
         let still : handed_refusal S (run S b cs) program_room ≡ 0 =
         sym (handed.none_refused S (run S b cs) program_room (record {
           settings = a.settings;
           room = a.room;
           books = run_accepted S b cs a.books;
         })) in
-        let count : r.count ≡ length (lines S b (calls_on u os)) =
+        let counted : count ≡ length (lines S b (calls_on u os)) =
         d.counted ∙ sym (lines_length S b (calls_on u os) ∙ length-map os (call_on u)) in
-        let settings : settings_of r.settings ≡ S = ap settings_of same in
         record {
           opening = b;
           calls = cs;
-          files = judged (some os) e ∙ ap (λ s. accepted s b cs) (sym settings);
-          books = books ∙ ap (λ s. run s b cs) (sym settings);
-          accepted = (λ j. handed_refusal (settings j) (books j) ((same_room k ∙ x.room) j)) ∙ still;
+          files = judged (some os) e;
+          books = books;
+          accepted = (λ j. handed_refusal S (books j) ((same_room k ∙ m) j)) ∙ still;
           lines =
-              (λ j. lines_of (d.results j) (count j))
+              (λ j. lines_of (d.results j) (counted j))
               ∙ lines_read (lines S b (calls_on u os)) _
-              ∙ (λ j. lines (sym settings j) b (as_read j));
+              ∙ ap (lines S b) as_read;
           few = omega (arith, d.counted, few);
         }
 
-    pub calls_carried : CarriedFiles (files bs calls) w after r
-    calls_carried = go (read_calls calls) refl
+    pub calls_carried : n ≡ 0 → SameSizes w u
+        → Done (files bs calls) w after record { settings = o.settings; scalars = s; count = count }
+    calls_carried z k = go (read_calls calls) refl
       where
-        go : (p : Option (List Operation)) → read_calls calls ≡ p → CarriedFiles (files bs calls) w after r
-        go none e = refused_files (answered none e) (omega arith) (judged none e)
-        go (some os) e =
-            let few = calls_few calls e in
-            let zero_answer : r.number ≡ 0 =
-            answered (some os) e ∙ if_false _ 61 0 (le-ltb (length before) (3 * length os) (omega (arith, few))) in
-            record { refused = λ y. absurd (y zero_answer); done = all_done os e }
+        go : (p : Option (List Operation)) → read_calls calls ≡ p
+            → Done (files bs calls) w after record { settings = o.settings; scalars = s; count = count }
+        go none e = let y : ⊥ = omega (arith, z, answered none e) in absurd y
+        go (some os) e = all_done os e z k
 
 -- ---- the output
 
@@ -209,29 +210,19 @@ module _ {t before after : List ℕ} {r : ℕ} (p : Printed t before after r) wh
   pub printed_part : r ≡ length (take r after)
   printed_part = sym (length-take-le r after printed_within)
 
-pub output_short : (opening calls before : List ℕ) → length before < most_printed
-    → BooksOutput opening calls before before 0
-output_short opening calls before h = record {
-  printed = λ l. let z : ⊥ = omega arith in absurd z;
-  short = λ _. (refl, refl);
-}
-
-module _ {opening calls : List ℕ} {u : Tables} {results before after : List ℕ} {c : Closing} {r : ℕ}
-    (x : CarriedFiles (files opening calls) u results c) (h : most_printed ≤ length before) where
-  pub output_refused : (c.number ≡ 0 → ⊥) → Printed (refused_text c.number) before after r
+module _ {opening calls before after : List ℕ} {r : ℕ} (h : most_printed ≤ length before) where
+  pub output_refused : {n : ℕ} → files opening calls ≡ refused n → Printed (refused_text n) before after r
       → BooksOutput opening calls before after r
   unfolding output
-  output_refused z p = record {
-    printed = λ _. rw (x.refused z) p;
+  output_refused f p = record {
+    printed = λ _. rw f p;
     short = λ l. let y : ⊥ = omega arith in absurd y;
   }
 
-  pub output_done : c.number ≡ 0 → Printed (table_text (lines_of results c.count)) before after r
-      → BooksOutput opening calls before after r
+  pub output_done : {u : Tables} {results : List ℕ} {c : Closing} → Done (files opening calls) u results c
+      → Printed (table_text (lines_of results c.count)) before after r → BooksOutput opening calls before after r
   unfolding output
-  output_done z p =
-      let d = x.done z in
-      record {
-        printed = λ _. rw d.files (rw d.lines at p);
-        short = λ l. let y : ⊥ = omega arith in absurd y;
-      }
+  output_done d p = record {
+    printed = λ _. rw d.files (rw d.lines at p);
+    short = λ l. let y : ⊥ = omega arith in absurd y;
+  }

@@ -1,22 +1,25 @@
 // Buffers for 256 records of each kind, and for the results of 9,999 calls.
-ghost use Rattle.std.specs.Prelude.{◌≡◌, length};
 
-pub type Identities = [u8; 20480];
+#[derive(Drop)]
+pub struct Buffers {
+    pub identities: [u8; 20480],
+    pub validators: [u64; 1792],
+    pub deposits: [u64; 512],
+    pub partials: [u64; 768],
+    pub consolidations: [u64; 512],
+    // three numbers a call
+    pub results: [u64; 29997],
+}
 
-pub type Validators = [u64; 1792];
-
-pub type Deposits = [u64; 512];
-
-pub type Partials = [u64; 768];
-
-pub type Consolidations = [u64; 512];
-
-// Three numbers a call.
-pub type Results = [u64; 29997];
-
-// Only the length is known of a buffer.
-pub fn blank<T: Copy, const N: usize>(zero: T) -> [T; N]
-    ensures { N ≡ length result }
-{
-    [zero; N]
+impl Buffers {
+    pub fn blank() -> Buffers {
+        Buffers {
+            identities: [0; 20480],
+            validators: [0; 1792],
+            deposits: [0; 512],
+            partials: [0; 768],
+            consolidations: [0; 512],
+            results: [0; 29997],
+        }
+    }
 }

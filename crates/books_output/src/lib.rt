@@ -9,7 +9,7 @@ mod files; // both files judged, and the calls carried out
 ghost use Rattle.std.specs.Prelude.{◌≡◌, ◌≤◌, length, take};
 ghost use Rattle.books_output.specs.Promise.{BooksOutput};
 
-use primitives::answers;
+use buffers::Buffers;
 
 // A header of 23 bytes, and 9,999 lines of 32.
 pub const MOST_PRINTED: usize = 319991;
@@ -24,24 +24,9 @@ pub fn books_output(opening: &[u8], calls: &[u8], out: &mut [u8]) -> usize
     if out.len() < MOST_PRINTED {
         return 0;
     }
-    let mut identities: buffers::Identities = buffers::blank(0);
-    let mut validators: buffers::Validators = buffers::blank(0);
-    let mut deposits: buffers::Deposits = buffers::blank(0);
-    let mut partials: buffers::Partials = buffers::blank(0);
-    let mut consolidations: buffers::Consolidations = buffers::blank(0);
-    let mut results: buffers::Results = buffers::blank(0);
-    let closing = files::carry_out_files(
-        opening,
-        calls,
-        &mut identities,
-        &mut validators,
-        &mut deposits,
-        &mut partials,
-        &mut consolidations,
-        &mut results,
-    );
-    if closing.number != answers::DONE {
-        return table_text::put_refused(out, closing.number);
+    let mut buffers = Buffers::blank();
+    match files::carry_out_files(opening, calls, &mut buffers) {
+        Ok(closing) => table_text::put_table(&buffers.results, closing.count, out),
+        Err(refusal) => table_text::put_refused(out, refusal.number()),
     }
-    table_text::put_table(&results, closing.count, out)
 }

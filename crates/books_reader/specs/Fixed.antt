@@ -1,15 +1,16 @@
--- The reader's promise fixes the number, the settings, the scalars, and every byte and word of the buffers.
-use Rattle.std.specs.Prelude.{◌≡◌, refl, Bool, true, false, List, ℕ, eqb}
-use Rattle.std.proofs.Common.{sym, ap, ◌∙◌, eqb-true}
+-- The reader's promise fixes its answer, and every byte and word of the buffers.
+use Rattle.std.specs.Prelude.{◌≡◌, List, ℕ, Result, Ok, Err}
+use Rattle.std.proofs.Common.{sym, ap, ◌∙◌}
 use Rattle.std.proofs.Math.Option.{Option, some, none}
-use Rattle.std.proofs.lemmas.Bool.{eqb-false}
 use Rattle.rules.specs.Types as rule
 use Rattle.primitives.specs.declared.Settings.{Settings}
+use Rattle.primitives.specs.declared.answers.Refusal.{Refusal}
+use Rattle.primitives.specs.Answers.{refusal_not_0, refusal_fixed}
 use Rattle.primitives.specs.Settings.{settings_of}
 use Rattle.records.specs.Books.{Tables}
 use Rattle.records.specs.Fixed.{SameSizes, books_fixed}
 use Rattle.books_reader.specs.declared.Opened.{Opened}
-use Rattle.books_reader.specs.Read.{blank, BooksRead}
+use Rattle.books_reader.specs.Read.{BooksRead}
 
 -- the declared settings that settings were read from
 settings_in : rule.Settings → Settings
@@ -48,28 +49,15 @@ some_fixed : {A : Type 0} (p q : A) → some p ≡ some q → p ≡ q
 unfolding read_or
 some_fixed p q e = ap (read_or p) e
 
-module _ {bs : List ℕ} {t u w : Tables} {r q : Opened} (z : SameSizes u w) (a : BooksRead bs t u r)
-    (b : BooksRead bs t w q) where
-  same_number : r.number ≡ q.number
-  same_number = a.number ∙ sym b.number
-
-  opened_fixed : r.number ≡ 0 → (r ≡ q) × (u ≡ w)
-  opened_fixed e =
-      let read = some_fixed _ _ (sym (a.books e) ∙ b.books (sym same_number ∙ e)) in
-      let S = settings_fixed r.settings q.settings (ap (λ p. p.0) read) in
-      let same = books_fixed z a.beyond b.beyond (ap (λ p. p.1) read) in
-      ((λ j. record { number = same_number j; settings = S j; scalars = same.0 j }), same.1)
-
-  refusal_fixed : (r.number ≡ 0 → ⊥) → (r ≡ q) × (u ≡ w)
-  refusal_fixed h =
-      let x = a.refused h in
-      let y = b.refused (λ e. h (same_number ∙ e)) in
-      (x.0 ∙ ap blank same_number ∙ sym y.0, x.1 ∙ sym y.1)
-
+module _ {bs : List ℕ} {t u w : Tables} (z : SameSizes u w) where
   -- no two outcomes of one reading
-  pub read_fixed : (r ≡ q) × (u ≡ w)
-  read_fixed = go (eqb r.number 0) refl
-    where
-      go : (x : Bool) → eqb r.number 0 ≡ x → (r ≡ q) × (u ≡ w)
-      go true e = opened_fixed (eqb-true r.number 0 e)
-      go false e = refusal_fixed (eqb-false r.number 0 e)
+  pub read_fixed : (r q : Result Opened Refusal) → BooksRead bs t u r → BooksRead bs t w q → (r ≡ q) × (u ≡ w)
+  read_fixed (Ok o) (Ok p) a b =
+      let read = some_fixed _ _ (sym a.books ∙ b.books) in
+      let S = settings_fixed o.settings p.settings (ap (λ x. x.0) read) in
+      let same = books_fixed z a.beyond b.beyond (ap (λ x. x.1) read) in
+      ((λ j. Ok (record { settings = S j; scalars = same.0 j })), same.1)
+  read_fixed (Ok o) (Err f) a b = absurd (refusal_not_0 f (b.number ∙ sym a.number))
+  read_fixed (Err e) (Ok p) a b = absurd (refusal_not_0 e (a.number ∙ sym b.number))
+  read_fixed (Err e) (Err f) a b =
+      (ap Err (refusal_fixed e f (a.number ∙ sym b.number)), a.refused ∙ sym b.refused)

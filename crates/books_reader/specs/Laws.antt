@@ -1,46 +1,38 @@
 -- The facts that the reader is proved by.
-use Rattle.std.specs.Prelude.{◌≡◌, refl, Bool, true, false, ◌&&◌, List, ℕ, ◌%◌, eqb, length}
+use Rattle.std.specs.Prelude.{◌≡◌, refl, Bool, true, false, List, ℕ, length, Ok}
 use Rattle.std.proofs.Math.Path.{sym, ap}
 use Rattle.std.proofs.Common.{◌∙◌, arith}
 use Rattle.std.proofs.Math.Option.{some, none}
-use Rattle.lists.specs.Laws.{both, if_true, if_false}
+use Rattle.lists.specs.Laws.{if_true, if_false}
 use Rattle.tables.specs.Rows.{length_rows}
 use Rattle.rules.specs.Types as rule
 use Rattle.rules.specs.Acceptance.{sound_settings, sound_books}
 use Rattle.rules.specs.Calls.{Room, enough_room, handed_refusal}
 use Rattle.rule_laws.specs.Accepted.{books_sound}
-use Rattle.primitives.specs.declared.Settings.{Settings}
 use Rattle.primitives.specs.declared.Scalars.{Scalars}
 use Rattle.primitives.specs.Settings.{settings_of}
-use Rattle.records.specs.Books.{Tables, room_of, beyond_none}
+use Rattle.records.specs.Books.{Tables, room_of}
 use Rattle.records.specs.Reading.{room}
 use Rattle.acceptance.specs.Handed as handed
 use Rattle.acceptance.specs.Handed.{Accepted, accepted}
 use Rattle.file_format.specs.Words.{words}
 use Rattle.file_format.specs.Books.{books_format}
-use Rattle.file_format.specs.File.{ends, file_ok, read_file, read_books}
+use Rattle.file_format.specs.File.{file_ok, read_file, read_books}
 use Rattle.file_format.specs.Answers.{opened_answer, read_answer}
 use Rattle.file_format.specs.Places.{settings_at, books_at}
-use Rattle.file_format.specs.PlacesLaws.{Good}
-use Rattle.file_format.proofs.PlacesLaws.{good, books_value}
+use Rattle.file_format.proofs.PlacesLaws.{books_value}
 use Rattle.file_records.specs.Scalars.{scalars_at}
 use Rattle.file_records.specs.Books.{validators_counted, deposits_counted, partials_counted, consolidations_counted}
 use Rattle.file_records.specs.Books.{file_validators, file_deposits, file_partials, file_consolidations}
 use Rattle.table_stores.specs.Stored.{Fits, BooksStored}
 use Rattle.books_reader.specs.declared.Opened.{Opened}
-use Rattle.books_reader.specs.Read.{blank, BooksRead}
+use Rattle.books_reader.specs.Read.{BooksRead}
 
 -- ---- what the file reads to
 
 module _ (bs : List ℕ) where
   abbrev ws : List ℕ
   ws = words bs
-
-  pub file_good : file_ok books_format bs ≡ true → Good (words bs)
-  unfolding file_ok
-  file_good e =
-      let a = both (eqb (length bs % 4) 0) (books_format.ok ws && ends ws (books_format.rest ws)) e in
-      good ws (both (books_format.ok ws) (ends ws (books_format.rest ws)) a.1).0
 
   file_read : file_ok books_format bs ≡ true → read_books bs ≡ some (settings_at (words bs), books_at (words bs))
   unfolding read_file
@@ -119,35 +111,22 @@ room_there bs t {s} o e =
       consolidations = omega (arith, k.consolidations, b.consolidations_fit, c);
     }
 
--- what the reader's number 0 gives
-pub opened_good : (bs : List ℕ) (r : Room) {n : ℕ} → n ≡ read_answer r bs → n ≡ 0 → Good (words bs)
-opened_good bs r e z = file_good bs (opens bs r (sym e ∙ z)).good
+-- what the number 0 gives
+pub read_good : (bs : List ℕ) (r : Room) → 0 ≡ read_answer r bs → file_ok books_format bs ≡ true
+read_good bs r e = (opens bs r (sym e)).good
 
-pub opened_fits : (bs : List ℕ) (t : Tables) {n : ℕ} {s : Scalars} → n ≡ read_answer (room_of t) bs → n ≡ 0
-    → s ≡ scalars_at (words bs) → Fits s t
-opened_fits bs t e z s = room_there bs t (opens bs (room_of t) (sym e ∙ z)) s
+pub read_fits : (bs : List ℕ) (t : Tables) {s : Scalars} → 0 ≡ read_answer (room_of t) bs → s ≡ scalars_at (words bs)
+    → Fits s t
+read_fits bs t e s = room_there bs t (opens bs (room_of t) (sym e)) s
 
 -- ---- the promise
 
-pub read_refused : (bs : List ℕ) (t : Tables) {n : ℕ} {r : Opened} → n ≡ read_answer (room_of t) bs → (n ≡ 0 → ⊥)
-    → r ≡ blank n → BooksRead bs t t r
-read_refused bs t {n} {r} e h b =
-    rw b
-    (record {
-      number = e;
-      books = λ z. absurd (h z);
-      beyond = beyond_none _ t;
-      refused = λ _. (refl, refl);
-    })
-
-pub read_done : (bs : List ℕ) (t u : Tables) {n : ℕ} {settings : Settings} {scalars : Scalars}
-    → n ≡ read_answer (room_of t) bs → n ≡ 0 → settings_of settings ≡ settings_at (words bs)
-    → BooksStored (words bs) scalars t u
-    → BooksRead bs t u (record { number = n; settings = settings; scalars = scalars })
-read_done bs t u {n} {settings} {scalars} e z s b = record {
-  number = e;
-  books = λ _.
-      file_read bs (opens bs (room_of t) (sym e ∙ z)).good ∙ sym (λ j. some (s j, b.books j));
+pub read_done : (bs : List ℕ) (t u : Tables) (o : Opened) → 0 ≡ read_answer (room_of t) bs
+    → settings_of o.settings ≡ settings_at (words bs) → BooksStored (words bs) o.scalars t u
+    → BooksRead bs t u (Ok o)
+read_done bs t u o n s b = record {
+  number = n;
+  books = file_read bs (read_good bs (room_of t) n) ∙ sym (λ j. some (s j, b.books j));
   beyond = b.beyond;
-  refused = λ h. absurd (h z);
+  refused = tt;
 }

@@ -1,4 +1,7 @@
 // The counted lists of a books file: 46 words a validator, 6 a deposit, 9 a partial withdrawal, 6 a consolidation.
+
+// A buffer and a word of it stay two parameters, as in file_stores, and the bound on n a clause: a count has 28 bits.
+
 ghost use Rattle.std.specs.Prelude.{◌≡◌, true, ◌+◌, ◌*◌, ◌/◌, ◌≤◌, ◌<◌, ◌^◌, length};
 ghost use Rattle.lists.specs.Base.{every};
 ghost use Rattle.tables.specs.Rows.{rows};

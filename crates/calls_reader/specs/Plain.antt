@@ -1,12 +1,12 @@
 -- The rules' operation of each call.
-use Rattle.std.specs.Prelude.{◌≡◌, true, map, List, ℕ, zero, suc, ◌+◌, drop}
+use Rattle.std.specs.Prelude.{◌≡◌, true, map, List, ℕ, zero, suc, drop}
 use Rattle.std.proofs.Common.{refl, sym, ap, ◌∙◌}
 use Rattle.rules.specs.Calls.{Operation, reward, penalty, deposit_receipt, voluntary_exit, withdrawal_request}
 use Rattle.rules.specs.Calls.{consolidation, turn, withdrawals}
 use Rattle.expected_withdrawals.specs.Expected.{coded_withdrawal, padded, handed_list}
 use Rattle.file_format.specs.Calls.{call, call_format}
 use Rattle.file_format.proofs.FieldsLaws.{impossible}
-use Rattle.calls_reader.specs.Widths.{code_at, call_value_at, fields_good}
+use Rattle.calls_reader.specs.Widths.{code_of, call_value, fields_good}
 use Rattle.calls_reader.specs.declared.Kind.{Kind}
 use Rattle.calls_reader.specs.declared.Kind.TheVariants as kind
 use Rattle.calls_reader.specs.declared.Withdrawals as listed
@@ -60,12 +60,11 @@ code_left (suc (suc (suc (suc (suc (suc (suc zero))))))) us e n₁ n₂ n₃ n�
 code_left (suc (suc (suc (suc (suc (suc (suc (suc zero)))))))) us e n₁ n₂ n₃ n₄ n₅ n₆ n₈ = absurd (n₈ refl)
 code_left (suc (suc (suc (suc (suc (suc (suc (suc (suc c))))))))) us e n₁ n₂ n₃ n₄ n₅ n₆ n₈ = impossible e
 
-pub turn_code : (ws : List ℕ) (k : ℕ) {c : ℕ} → call.ok (drop k ws) ≡ true → c ≡ code_at ws k → (c ≡ 1 → ⊥)
-    → (c ≡ 2 → ⊥) → (c ≡ 3 → ⊥) → (c ≡ 4 → ⊥) → (c ≡ 5 → ⊥) → (c ≡ 6 → ⊥) → (c ≡ 8 → ⊥) → 7 ≡ code_at ws k
-turn_code ws k {c} e q n₁ n₂ n₃ n₄ n₅ n₆ n₈ =
-    let us = drop (k + 1) ws in
-    let good = ap (λ n. (call_format n).ok us) q ∙ fields_good ws k e in
-    code_left c us good n₁ n₂ n₃ n₄ n₅ n₆ n₈ ∙ q
+pub turn_code : (us : List ℕ) {c : ℕ} → call.ok us ≡ true → c ≡ code_of us → (c ≡ 1 → ⊥) → (c ≡ 2 → ⊥)
+    → (c ≡ 3 → ⊥) → (c ≡ 4 → ⊥) → (c ≡ 5 → ⊥) → (c ≡ 6 → ⊥) → (c ≡ 8 → ⊥) → 7 ≡ code_of us
+turn_code us {c} e q n₁ n₂ n₃ n₄ n₅ n₆ n₈ =
+    let good = ap (λ n. (call_format n).ok (drop 1 us)) q ∙ fields_good us e in
+    code_left c (drop 1 us) good n₁ n₂ n₃ n₄ n₅ n₆ n₈ ∙ q
 
-pub turn_read : (ws : List ℕ) (k : ℕ) → 7 ≡ code_at ws k → turn ≡ call.value (drop k ws)
-turn_read ws k e = ap (λ n. (call_format n).value (drop (k + 1) ws)) e ∙ sym (call_value_at ws k)
+pub turn_read : (us : List ℕ) → 7 ≡ code_of us → turn ≡ call.value us
+turn_read us e = ap (λ n. (call_format n).value (drop 1 us)) e ∙ sym (call_value us)

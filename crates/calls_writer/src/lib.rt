@@ -1,6 +1,9 @@
 // A calls file made in a lent buffer. The buffer always begins with a complete file, of the length that the last call
 // returned; each call is added at its end. 60, then 61, before the first store.
 
+// A buffer and a word of it stay two parameters, as in file_stores. A list stays an array and a count, as the reader
+// gives it.
+
 #![tactic(auto)]
 
 ghost use Rattle.std.specs.Prelude.{◌≡◌, [], ◌∷◌, ◌+◌, ◌-◌, ◌*◌, ◌/◌, ◌≤◌, length, false, MatchOption};
@@ -203,7 +206,7 @@ fn put_call(out: &mut [u8], k: usize, c: Call)
 
 // ---- a call added
 
-// How many words it has with its code; none where it lists more than 16 withdrawals.
+// How many words it has with its code; None where it lists more than 16 withdrawals.
 fn call_width(c: Call) -> Option<usize>
     ensures { MatchOption result
         (call.domain (plain_call c) ≡ false)

@@ -3,7 +3,9 @@
 
 #![tactic(auto)]
 
+use books_output::closing::closing_file;
 use full_reads::read_file;
+use primitives::answers::Refusal;
 use std::rt::Files;
 use std::{fs, io};
 
@@ -13,9 +15,9 @@ const FILE: usize = 65537;
 // Room for books with 256 records of each kind.
 const CLOSING: usize = 68968;
 
-fn print_refused(to: &impl Print, number: u8) -> io::Result<()> {
+fn print_refused(to: &impl Print, refusal: Refusal) -> io::Result<()> {
     let mut line = [0; 11];
-    table_text::put_refused(&mut line, number);
+    table_text::put_refused(&mut line, refusal.number());
     to.write_all(&line)
 }
 
@@ -33,9 +35,8 @@ fn main(rt: HostRuntime) -> io::Result<()> {
     let mut out = [0; CLOSING];
     let n = read_file(&rt, "opening.w", &mut opening)?;
     let m = read_file(&rt, "calls.w", &mut calls)?;
-    let written = books_output::closing::closing_file(&opening[..n], &calls[..m], &mut out);
-    if written.number != 0 {
-        return print_refused(&rt, written.number);
+    match closing_file(&opening[..n], &calls[..m], &mut out) {
+        Ok(length) => write(&rt, &out[..length]),
+        Err(refusal) => print_refused(&rt, refusal),
     }
-    write(&rt, &out[..written.length])
 }

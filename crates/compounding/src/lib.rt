@@ -59,10 +59,14 @@ fn queue_excess_active_balance(
             amount: excess_balance,
         },
     );
-    scalars.with_deposits(n + 1)
+    Scalars {
+        deposits: n + 1,
+        ..scalars
+    }
 }
 
 // Byte 0 of the credentials goes from 01 to 02, and the excess is queued.
+// The tables stay apart, as C lends them: the call writes all three.
 pub fn switch_to_compounding_validator(
     settings: Settings,
     scalars: Scalars,

@@ -2,10 +2,9 @@
 
 #![tactic(auto)]
 
-ghost use Rattle.std.specs.Prelude.{◌≡◌, true, List, ℕ, ◌<◌, ◌≤◌};
+ghost use Rattle.std.specs.Prelude.{◌≡◌, List, ℕ, ◌<◌, ◌≤◌};
 ghost use Rattle.rules.specs.Helpers.{get_consolidation_churn_limit};
 ghost use Rattle.rules.specs.BlockProcessing.{consolidation_refusal, process_consolidation};
-ghost use Rattle.rules.specs.Acceptance.{sound_settings};
 ghost use Rattle.rules.specs.Calls.{handed_refusal, consolidation};
 ghost use Rattle.rule_laws.specs.Accepted.{SoundBooks};
 ghost use Rattle.primitives.specs.Answers.{answer_number, answer_or};
@@ -19,6 +18,7 @@ ghost use Rattle.call_answers.specs.Answers.{Judged};
 ghost use Rattle.consolidation_operations.specs.Consolidations.{pair_refusal};
 
 use primitives::answers::Refusal;
+use primitives::sound::SoundSettings;
 use primitives::{BOUND, Epoch, FAR_FUTURE_EPOCH, Gwei, Scalars, Settings, ValidatorIndex};
 use records::books::Books;
 use records::queues::PendingConsolidation;
@@ -32,7 +32,8 @@ fn pair_refusal(
     epoch: Epoch,
     valid: bool,
 ) -> Result<(), Refusal>
-    ensures { answer_number result ≡ pair_refusal current_epoch.0 (plain_validator source) (plain_validator target) epoch.0 valid }
+    ensures { answer_number result
+        ≡ pair_refusal current_epoch.0 (plain_validator source) (plain_validator target) epoch.0 valid }
 {
     if !source.is_active_validator(current_epoch) {
         return Err(Refusal::NotActive);
@@ -66,7 +67,7 @@ fn pair_refusal(
     Ok(())
 }
 
-// The first test of a consolidation that fails; 0 where none does. The consolidation churn is known.
+// The first test of a consolidation that fails; Ok where none does. The consolidation churn is known.
 pub fn consolidation_refusal(
     settings: Settings,
     books: &Books<'_>,
@@ -119,8 +120,10 @@ pub fn consolidation_refusal(
 }
 
 // The source's exit and the queue's new entry, unless an epoch that they write is over the bound.
+// Registry and Accounts stay clauses: the one ties the scalars to a table that the call writes, and the other is of
+// scalars that a call alters.
 fn consolidation_within_bound(
-    settings: Settings,
+    sound: SoundSettings,
     scalars: Scalars,
     validators: &mut [u64],
     consolidations: &mut [u64],
@@ -128,26 +131,26 @@ fn consolidation_within_bound(
     source: ValidatorIndex,
     target: ValidatorIndex,
 ) -> Result<Scalars, Refusal>
-    requires settings_are_sound { sound_settings (settings_of settings) ≡ true }
     requires registry { Registry scalars validators.old }
     requires accounts { Accounts scalars }
     requires churn_is_some { (0 < churn.0)
         × ((ids ds ps cs : List ℕ)
-        → churn.0 ≡ get_consolidation_churn_limit (settings_of settings)
+        → churn.0 ≡ get_consolidation_churn_limit (settings_of sound.settings)
         (books_of scalars (tables ids validators.old ds ps cs))) }
     requires known_source_and_room { (source.0 < scalars.validators)
         × (scalars.consolidations < consolidations_fit consolidations.old) }
     ensures { (ids ds ps : List ℕ)
-        → SoundBooks (settings_of settings)
+        → SoundBooks (settings_of sound.settings)
         (books_of scalars (tables ids validators.old ds ps consolidations.old))
-        → Judged (settings_of settings) (process_consolidation (settings_of settings) source.0 target.0) scalars
+        → Judged (settings_of sound.settings)
+        (process_consolidation (settings_of sound.settings) source.0 target.0) scalars
         (tables ids validators.old ds ps consolidations.old)
         (tables ids validators.new ds ps consolidations.new)
         (answer_number result) (answer_or scalars result) }
 {
     let amount = records::registry::effective_balance_at(validators, source);
-    let a = helpers::exits::assign_consolidation_epoch(settings, scalars, churn, amount);
-    let withdrawable = helpers::exits::withdrawable_epoch(settings, a);
+    let a = helpers::exits::assign_consolidation_epoch(sound, scalars, churn, amount);
+    let withdrawable = helpers::exits::withdrawable_epoch(sound.settings, a);
     if BOUND < withdrawable.0 {
         return Err(Refusal::ResultEpochOverBound);
     }
@@ -158,11 +161,15 @@ fn consolidation_within_bound(
     };
     records::registry::set_exit(validators, source, a.epoch, withdrawable);
     records::queues::push(consolidations, n, entry);
-    let charged = scalars.with_consolidation_churn(a.left, a.epoch);
-    let queued = charged.with_consolidations(n + 1);
-    Ok(queued)
+    Ok(Scalars {
+        consolidation_balance_to_consume: a.left,
+        earliest_consolidation_epoch: a.epoch,
+        consolidations: n + 1,
+        ..scalars
+    })
 }
 
+// The tables stay apart: the call writes some and only reads the others, as C lends them.
 pub fn process_consolidation(
     settings: Settings,
     scalars: Scalars,
@@ -188,7 +195,8 @@ pub fn process_consolidation(
         partials.now consolidations.new)
         (answer_number result) (answer_or scalars result) }
 {
-    let churn = helpers::churn::get_consolidation_churn_limit(settings, scalars, validators);
+    let sound = SoundSettings { settings };
+    let churn = helpers::churn::get_consolidation_churn_limit(sound, scalars, validators);
     let books = Books {
         scalars,
         identities,
@@ -199,7 +207,7 @@ pub fn process_consolidation(
     };
     consolidation_refusal(settings, &books, churn, source, target, epoch, valid)?;
     consolidation_within_bound(
-        settings,
+        sound,
         scalars,
         validators,
         consolidations,

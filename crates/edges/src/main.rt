@@ -1,6 +1,9 @@
 // Edges run through the public calls on the mainnet row, but for one with another minimum churn. One line an edge: the
 // answer, then what the edge is about. The expected output stands in the file stdout.
 
+// The calls stay written out one by one: each case is another public call with numbers of its own, and a shared
+// function would hide which.
+
 #![tactic(auto)]
 
 use expected_withdrawals::ExpectedWithdrawals;
@@ -126,7 +129,10 @@ fn assign(to: &impl Print, amount: u64, churn: u64) -> io::Result<()> {
 fn deposit_step(to: &impl Print, amount: u64) -> io::Result<()> {
     let mut books = Books::new(1, 32 * G);
     books.deposits = [0, 30 * G, 0, amount, 0, 0, 0, 0];
-    books.scalars = scalars(2, 0, 0).with_deposit_balance_to_consume(Gwei(2 * G), 2);
+    books.scalars = Scalars {
+        deposit_balance_to_consume: Gwei(2 * G),
+        ..scalars(2, 0, 0)
+    };
     let r = electra::deposits::process_pending_balance_deposits(
         books.settings,
         books.scalars,
@@ -201,7 +207,10 @@ fn consolidation_step(to: &impl Print, slashed: u64, withdrawable: u64) -> io::R
 fn turn(to: &impl Print, epoch: u64) -> io::Result<()> {
     let mut books = Books::new(1, 40 * G);
     books.deposits[1] = G;
-    books.scalars = scalars(1, 0, 0).with_epoch(Epoch(epoch));
+    books.scalars = Scalars {
+        epoch: Epoch(epoch),
+        ..scalars(1, 0, 0)
+    };
     let r = electra::turns::turn(
         books.settings,
         books.scalars,

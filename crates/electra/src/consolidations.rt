@@ -9,6 +9,7 @@ use primitives::{Scalars, Settings};
 use records::books::Books;
 
 // Whether the deposit queue will be within its limit is known before the first store.
+// The tables stay apart: the call writes some and only reads the others, as C lends them.
 pub fn process_pending_consolidations(
     settings: Settings,
     scalars: Scalars,
@@ -24,18 +25,16 @@ pub fn process_pending_consolidations(
         (tables identities.new validators.new deposits.new
         partials.now consolidations.new) (answer_number result) (answer_or scalars result) }
 {
-    acceptance::accept(
-        settings,
-        &Books {
-            scalars,
-            identities,
-            validators,
-            deposits,
-            partials,
-            consolidations,
-        },
-    )?;
-    if !queue_room::consolidations_fit(settings, scalars, identities, validators, consolidations) {
+    let books = Books {
+        scalars,
+        identities,
+        validators,
+        deposits,
+        partials,
+        consolidations,
+    };
+    acceptance::accept(settings, &books)?;
+    if !queue_room::consolidations_fit(settings, &books) {
         return Err(Refusal::ResultOverLimit);
     }
     let after = pending_consolidations::process_pending_consolidations(

@@ -5,9 +5,11 @@ ghost use Rattle.primitives.specs.Settings.{settings_of};
 ghost use Rattle.records.specs.Books.{tables, Called};
 
 use primitives::answers::Refusal;
+use primitives::sound::SoundSettings;
 use primitives::{Scalars, Settings};
 use records::books::Books;
 
+// The tables stay apart: the call writes some and only reads the others, as C lends them.
 pub fn process_pending_balance_deposits(
     settings: Settings,
     scalars: Scalars,
@@ -34,9 +36,10 @@ pub fn process_pending_balance_deposits(
             consolidations,
         },
     )?;
-    let allowance = helpers::churn::get_activation_exit_churn_limit(settings, scalars, validators);
+    let sound = SoundSettings { settings };
+    let allowance = helpers::churn::get_activation_exit_churn_limit(sound, scalars, validators);
     let after = pending_deposits::process_pending_balance_deposits(
-        settings,
+        sound,
         scalars,
         identities,
         validators,

@@ -5,9 +5,11 @@ ghost use Rattle.primitives.specs.Settings.{settings_of};
 ghost use Rattle.records.specs.Books.{tables, Called};
 
 use primitives::answers::Refusal;
+use primitives::sound::SoundSettings;
 use primitives::{Scalars, Settings};
 use records::books::Books;
 
+// The tables stay apart: the call writes some and only reads the others, as C lends them.
 pub fn process_effective_balance_updates(
     settings: Settings,
     scalars: Scalars,
@@ -34,8 +36,9 @@ pub fn process_effective_balance_updates(
             consolidations,
         },
     )?;
+    let sound = SoundSettings { settings };
     let after = epoch_processing::effective_balances::process_effective_balance_updates(
-        settings, scalars, identities, validators,
+        sound, scalars, identities, validators,
     );
     Ok(after)
 }

@@ -1,4 +1,4 @@
-// The public calls, one to a file. Each tests what it was handed and answers a number; a refusal changes nothing that
+// The public calls, one to a file. Each tests what it was handed and answers a Result; a refusal changes nothing that
 // was lent.
 
 #![tactic(auto)]

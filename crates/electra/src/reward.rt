@@ -8,6 +8,7 @@ use primitives::answers::Refusal;
 use primitives::{Gwei, Scalars, Settings, ValidatorIndex};
 use records::books::Books;
 
+// The tables stay apart: the call writes some and only reads the others, as C lends them.
 pub fn reward(
     settings: Settings,
     scalars: Scalars,

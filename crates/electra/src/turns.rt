@@ -9,6 +9,7 @@ use primitives::{Scalars, Settings};
 use records::books::Books;
 
 // The three steps, then the next epoch.
+// The tables stay apart: the call writes some and only reads the others, as C lends them.
 pub fn turn(
     settings: Settings,
     scalars: Scalars,

@@ -24,7 +24,8 @@ use Rattle.result_sizes.specs.Epoch.{deposits_size, consolidations_size}
 use Rattle.primitives.specs.declared.Scalars.{Scalars}
 use Rattle.primitives.specs.Scalars.{with_epoch, with_consolidations}
 use Rattle.records.specs.Books.{Tables, Stepped, Beyond, AtMost, books_of, room_of, beyond_then}
-use Rattle.records.specs.Reading.{EnoughRoom, room, room_so, validators_count, deposits_count, partials_count, epoch_read}
+use Rattle.records.specs.Reading.{EnoughRoom, room, room_so, validators_count, deposits_count, partials_count}
+use Rattle.records.specs.Reading.{epoch_read}
 use Rattle.records.specs.Fixed.{SameSizes}
 use Rattle.epoch_processing.specs.Ready.{UpdatesReady, updates_ready}
 

@@ -1,13 +1,13 @@
 // The effective balance step: an effective balance follows its balance where that leaves the hysteresis band.
-ghost use Rattle.std.specs.Prelude.{◌≡◌, true, ◌||◌, List, ℕ, ◌+◌, ◌<◌, ◌^◌, ltb};
+ghost use Rattle.std.specs.Prelude.{◌≡◌, ◌||◌, List, ℕ, ◌+◌, ◌<◌, ◌^◌, ltb};
 ghost use Rattle.rules.specs.EpochProcessing as rule;
-ghost use Rattle.rules.specs.Acceptance.{sound_settings};
 ghost use Rattle.primitives.specs.Settings.{settings_of};
 ghost use Rattle.records.specs.Layout.{effective_balance_at, balance_at, identities_fit, validators_fit};
 ghost use Rattle.records.specs.Books.{Stepped, tables};
 ghost use Rattle.epoch_processing.specs.Updates.{downward_threshold, upward_threshold, Updated};
 ghost use Rattle.epoch_processing.specs.Ready.{UpdatesReady};
 
+use primitives::sound::SoundSettings;
 use primitives::{Gwei, Scalars, Settings, ValidatorIndex};
 
 // How far a balance may stand below and above its effective balance.
@@ -18,11 +18,11 @@ struct Band {
 }
 
 impl Band {
-    fn of(settings: Settings) -> Band
-        requires { sound_settings (settings_of settings) ≡ true }
-        ensures { (result.downward.0 ≡ downward_threshold (settings_of settings))
-            × (result.upward.0 ≡ upward_threshold (settings_of settings)) }
+    fn of(sound: SoundSettings) -> Band
+        ensures { (result.downward.0 ≡ downward_threshold (settings_of sound.settings))
+            × (result.upward.0 ≡ upward_threshold (settings_of sound.settings)) }
     {
+        let settings = sound.settings;
         let increment = settings.effective_balance_increment.0 / settings.hysteresis_quotient;
         Band {
             downward: Gwei(increment * settings.hysteresis_downward_multiplier),
@@ -70,22 +70,27 @@ fn update_effective_balance(
 }
 
 pub fn process_effective_balance_updates(
-    settings: Settings,
+    sound: SoundSettings,
     scalars: Scalars,
     identities: &[u8],
     validators: &mut [u64],
 ) -> Scalars
-    requires settings_are_sound { sound_settings (settings_of settings) ≡ true }
-    requires updates_ready { UpdatesReady (settings_of settings) scalars identities.now validators.old }
+    requires { UpdatesReady (settings_of sound.settings) scalars identities.now validators.old }
     ensures stepped { (ds ps cs : List ℕ)
-        → Stepped (rule.process_effective_balance_updates (settings_of settings)) scalars
+        → Stepped (rule.process_effective_balance_updates (settings_of sound.settings)) scalars
         (tables identities.now validators.old ds ps cs)
         (tables identities.now validators.new ds ps cs) result }
     ensures scalars_kept { result ≡ scalars }
 {
-    let band = Band::of(settings);
+    let band = Band::of(sound);
     for i in 0..scalars.validators {
-        update_effective_balance(settings, identities, validators, ValidatorIndex(i), band);
+        update_effective_balance(
+            sound.settings,
+            identities,
+            validators,
+            ValidatorIndex(i),
+            band,
+        );
     }
     scalars
 }

@@ -8,16 +8,17 @@ use Rattle.rules.specs.Types.{BOUND}
 use Rattle.rules.specs.EpochProcessing as steps
 use Rattle.rules.specs.Calls as calls
 use Rattle.rules.specs.Calls.{handed_refusal, own_refusal, result}
-use Rattle.rule_laws.specs.Accepted.{SoundSettings, SoundBooks}
-use Rattle.primitives.specs.Settings.{settings_of}
+use Rattle.rule_laws.specs.Accepted.{SoundBooks}
 use Rattle.primitives.specs.declared.Settings.{Settings}
 use Rattle.primitives.specs.declared.Scalars.{Scalars}
+use Rattle.primitives.specs.Settings.{settings_of}
 use Rattle.records.specs.Books.{Tables, books_of, room_of, Stepped, Called}
-use Rattle.records.specs.Reading.{EnoughRoom, epoch_read}
+use Rattle.records.specs.declared.books.Books.{Books}
+use Rattle.records.specs.Lent.{lent_tables, plain_books, lent_room}
+use Rattle.records.specs.Reading.{epoch_read}
 use Rattle.acceptance.specs.Handed.{facts}
 use Rattle.helpers.specs.Ready.{Registry, registry_ready}
-use Rattle.queue_room.specs.Ready as room_ready
-use Rattle.queue_room.specs.Ready.{RegistryReady, ConsolidationsReady, QueueReady, DepositsReady, AllowanceReady}
+use Rattle.queue_room.specs.Ready.{StepReady, TurnReady, AllowanceReady, step_ready, turn_ready, allowance_ready}
 use Rattle.epoch_processing.specs.Ready.{UpdatesReady, updates_ready}
 use Rattle.result_sizes.specs.Epoch.{deposits_size, consolidations_size, effective_size, turn_size}
 use Rattle.call_answers.specs.Called.{size_refused, call_done}
@@ -89,28 +90,12 @@ module _ (S : rule.Settings) (s : Scalars) (t : Tables) (h : handed_refusal S (b
       call_done S calls.turn s t h refl (turn_size S b k ∙ rw (e, le-leb (b.epoch + 1) BOUND within)) d
 
 -- what the tests of answer 40 ask
-module _ (S : Settings) (s : Scalars) (t : Tables)
-    (h : handed_refusal (settings_of S) (books_of s t) (room_of t) ≡ 0) where
-  abbrev σ : SoundSettings (settings_of S)
-  σ = (facts (settings_of S) s t h).settings
+pub step_known : (S : rule.Settings) (b : Books) → handed_refusal S (plain_books b) (lent_room b) ≡ 0 → StepReady b
+step_known S b h = let f = facts S b.scalars (lent_tables b) h in step_ready S b f.settings f.room f.books
 
-  abbrev ρ : EnoughRoom (settings_of S) t
-  ρ = (facts (settings_of S) s t h).room
+pub turn_known : (S : rule.Settings) (b : Books) → handed_refusal S (plain_books b) (lent_room b) ≡ 0 → TurnReady b
+turn_known S b h = let f = facts S b.scalars (lent_tables b) h in turn_ready S b f.settings f.room f.books
 
-  abbrev β : SoundBooks (settings_of S) (books_of s t)
-  β = (facts (settings_of S) s t h).books
-
-  pub registry_there : RegistryReady s t.identities t.validators
-  registry_there = room_ready.registry_ready S s t σ ρ β
-
-  pub consolidations_there : ConsolidationsReady s t.consolidations
-  consolidations_there = room_ready.consolidations_ready S s t σ ρ β
-
-  pub queue_there : QueueReady S s
-  queue_there = room_ready.queue_ready S s t σ ρ β
-
-  pub deposits_there : DepositsReady s t.identities t.validators t.deposits
-  deposits_there = room_ready.deposits_ready S s t σ ρ β
-
-  pub allowance_there : AllowanceReady S s
-  allowance_there = room_ready.allowance_ready S s t σ ρ β
+pub allowance_known : (S : Settings) (s : Scalars) (t : Tables)
+    → handed_refusal (settings_of S) (books_of s t) (room_of t) ≡ 0 → AllowanceReady S s
+allowance_known S s t h = let f = facts (settings_of S) s t h in allowance_ready S s t f.settings f.books

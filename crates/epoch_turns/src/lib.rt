@@ -9,9 +9,12 @@ ghost use Rattle.primitives.specs.Settings.{settings_of};
 ghost use Rattle.records.specs.Books.{tables, books_of, room_of, Called};
 
 use primitives::answers::Refusal;
+use primitives::sound::SoundSettings;
 use primitives::{BOUND, Scalars, Settings};
+use records::books::Books;
 
 // The three steps, then the next epoch.
+// The tables stay apart: the call writes some and only reads the others, as C lends them.
 pub fn turn_accepted(
     settings: Settings,
     scalars: Scalars,
@@ -32,23 +35,24 @@ pub fn turn_accepted(
         (tables identities.new validators.new deposits.new
         partials.now consolidations.new) (answer_number result) (answer_or scalars result) }
 {
-    let allowance = helpers::churn::get_activation_exit_churn_limit(settings, scalars, validators);
-    if !queue_room::turn_fits(
-        settings,
+    let sound = SoundSettings { settings };
+    let allowance = helpers::churn::get_activation_exit_churn_limit(sound, scalars, validators);
+    let books = Books {
         scalars,
         identities,
         validators,
         deposits,
+        partials,
         consolidations,
-        allowance,
-    ) {
+    };
+    if !queue_room::turn_fits(settings, &books, allowance) {
         return Err(Refusal::ResultOverLimit);
     }
     if BOUND <= scalars.epoch.0 {
         return Err(Refusal::ResultEpochOverBound);
     }
     let after = epoch_processing::turn(
-        settings,
+        sound,
         scalars,
         identities,
         validators,

@@ -2,11 +2,10 @@
 
 #![tactic(auto)]
 
-ghost use Rattle.std.specs.Prelude.{◌≡◌, true, List, ℕ, ◌+◌, ◌<◌, ◌≤◌};
+ghost use Rattle.std.specs.Prelude.{◌≡◌, List, ℕ, ◌+◌, ◌<◌, ◌≤◌};
 ghost use Rattle.rules.specs.Types.{FAR};
 ghost use Rattle.rules.specs.Helpers.{initiate_validator_exit};
 ghost use Rattle.rules.specs.BlockProcessing.{voluntary_exit_refusal};
-ghost use Rattle.rules.specs.Acceptance.{sound_settings};
 ghost use Rattle.rules.specs.Calls.{handed_refusal, voluntary_exit};
 ghost use Rattle.rule_laws.specs.Accepted.{SoundBooks};
 ghost use Rattle.primitives.specs.Answers.{answer_number, answer_or};
@@ -18,50 +17,52 @@ ghost use Rattle.helpers.specs.Ready.{Registry, Accounts, Partials};
 ghost use Rattle.call_answers.specs.Answers.{Judged};
 
 use primitives::answers::Refusal;
+use primitives::sound::SoundSettings;
 use primitives::{BOUND, Epoch, FAR_FUTURE_EPOCH, Scalars, Settings, ValidatorIndex};
 use records::books::Books;
 
 // The exit of a validator that has not begun its exit, unless an epoch that it writes is over the bound.
+// Registry and Accounts stay clauses: the one ties the scalars to a table that the call writes, and the other is of
+// scalars that a call alters.
 pub fn exit_within_bound(
-    settings: Settings,
+    sound: SoundSettings,
     scalars: Scalars,
     validators: &mut [u64],
     i: ValidatorIndex,
 ) -> Result<Scalars, Refusal>
-    requires settings_are_sound { sound_settings (settings_of settings) ≡ true }
     requires registry { Registry scalars validators.old }
     requires accounts { Accounts scalars }
     requires not_begun { (i.0 < scalars.validators) × (exit_epoch_at validators.old i.0 ≡ FAR) }
     ensures { (ids ds ps cs : List ℕ)
-        → SoundBooks (settings_of settings) (books_of scalars (tables ids validators.old ds ps cs))
-        → Judged (settings_of settings) (initiate_validator_exit (settings_of settings) i.0) scalars
+        → SoundBooks (settings_of sound.settings) (books_of scalars (tables ids validators.old ds ps cs))
+        → Judged (settings_of sound.settings)
+        (initiate_validator_exit (settings_of sound.settings) i.0) scalars
         (tables ids validators.old ds ps cs) (tables ids validators.new ds ps cs)
         (answer_number result) (answer_or scalars result) }
 {
-    let a = helpers::exits::assign_exit(settings, scalars, validators, i);
-    let withdrawable = helpers::exits::withdrawable_epoch(settings, a);
+    let a = helpers::exits::assign_exit(sound, scalars, validators, i);
+    let withdrawable = helpers::exits::withdrawable_epoch(sound.settings, a);
     if BOUND < withdrawable.0 {
         return Err(Refusal::ResultEpochOverBound);
     }
-    let begun = helpers::exits::begin_exit(settings, scalars, validators, i, a);
+    let begun = helpers::exits::begin_exit(sound.settings, scalars, validators, i, a);
     Ok(begun)
 }
 
-// The first test of a voluntary exit that fails; 0 where none does. The time active counts from the activation epoch.
+// The first test of a voluntary exit that fails; Ok where none does. The time active counts from the activation epoch.
 pub fn voluntary_exit_refusal(
-    settings: Settings,
+    sound: SoundSettings,
     books: &Books<'_>,
     i: ValidatorIndex,
     epoch: Epoch,
     valid: bool,
 ) -> Result<(), Refusal>
-    requires settings_are_sound { sound_settings (settings_of settings) ≡ true }
     requires identities_room { books.now.scalars.validators ≤ identities_fit books.now.identities.now }
     requires registry { Registry books.now.scalars books.now.validators.now }
     requires accounts { Accounts books.now.scalars }
     requires partials { Partials books.now.scalars books.now.partials.now }
     ensures { answer_number result
-        ≡ voluntary_exit_refusal (settings_of settings) (plain_books books.now) i.0 epoch.0 valid }
+        ≡ voluntary_exit_refusal (settings_of sound.settings) (plain_books books.now) i.0 epoch.0 valid }
 {
     let scalars = books.scalars;
     let current_epoch = scalars.epoch;
@@ -78,7 +79,7 @@ pub fn voluntary_exit_refusal(
     if current_epoch.0 < epoch.0 {
         return Err(Refusal::StatedEpochAhead);
     }
-    if current_epoch.0 < v.activation_epoch.0 + settings.shard_committee_period {
+    if current_epoch.0 < v.activation_epoch.0 + sound.settings.shard_committee_period {
         return Err(Refusal::ActiveTooShort);
     }
     let pending = helpers::lookups::get_pending_balance_to_withdraw(scalars, books.partials, i);
@@ -91,6 +92,8 @@ pub fn voluntary_exit_refusal(
     Ok(())
 }
 
+// The tables stay apart, and their test a clause over them: the call writes some and only reads the others, as C lends
+// them.
 pub fn process_voluntary_exit(
     settings: Settings,
     scalars: Scalars,
@@ -115,6 +118,7 @@ pub fn process_voluntary_exit(
         partials.now consolidations.now)
         (answer_number result) (answer_or scalars result) }
 {
+    let sound = SoundSettings { settings };
     let books = Books {
         scalars,
         identities,
@@ -123,6 +127,6 @@ pub fn process_voluntary_exit(
         partials,
         consolidations,
     };
-    voluntary_exit_refusal(settings, &books, i, epoch, valid)?;
-    exit_within_bound(settings, scalars, validators, i)
+    voluntary_exit_refusal(sound, &books, i, epoch, valid)?;
+    exit_within_bound(sound, scalars, validators, i)
 }

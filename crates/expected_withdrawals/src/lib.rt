@@ -83,6 +83,7 @@ fn withdrawal_of(books: &Books<'_>, count: usize, i: ValidatorIndex, amount: Gwe
 }
 
 // Whether a waiting partial withdrawal of validator i is paid.
+// The bound on i stays a clause: it is the one that indexing a slice asks for.
 #[tactic(auto, unfolding(rules::specs::BlockProcessing::is_partial_payable))]
 fn is_partial_payable(settings: Settings, validators: &[u64], i: ValidatorIndex) -> bool
     requires { i.0 < validators_fit validators.now }
@@ -112,6 +113,7 @@ fn partial_amount(settings: Settings, validators: &[u64], p: PendingPartialWithd
 
 // Whether the sweep may take something of validator i, by three of its words. Most validators are passed so, and the
 // rest of their records is not read.
+// The bound on i stays a clause: it is the one that indexing a slice asks for.
 fn may_withdraw(epoch: Epoch, validators: &[u64], i: ValidatorIndex) -> bool
     requires { i.0 < validators_fit validators.now }
     ensures { (ids : List ℕ) → result ≡ may_withdraw epoch.0 (validator_at ids validators.now i.0) }
@@ -146,7 +148,8 @@ fn sweep_amount(settings: Settings, books: &Books<'_>, i: ValidatorIndex) -> Gwe
 
 // The waiting partial withdrawals that are paid.
 fn partial_withdrawals(settings: Settings, books: &Books<'_>) -> ExpectedWithdrawals
-    requires { Ready settings books.now.scalars books.now.identities.now books.now.validators.now books.now.partials.now }
+    requires { Ready settings books.now.scalars books.now.identities.now books.now.validators.now
+        books.now.partials.now }
     ensures { result ≡ list_partials (settings_of settings) (plain_books books.now)
         (rows books.now.scalars.partials (partial_at books.now.partials.now)) no_withdrawals }
 {
@@ -219,7 +222,8 @@ fn sweep_withdrawals(
 
 // The partial withdrawals, and then the sweep.
 pub fn get_expected_withdrawals(settings: Settings, books: &Books<'_>) -> ExpectedWithdrawals
-    requires { Ready settings books.now.scalars books.now.identities.now books.now.validators.now books.now.partials.now }
+    requires { Ready settings books.now.scalars books.now.identities.now books.now.validators.now
+        books.now.partials.now }
     ensures { result ≡ expected_of (settings_of settings) (plain_books books.now) }
 {
     let mut e = partial_withdrawals(settings, books);

@@ -1,37 +1,37 @@
 -- What the passes over the lists of a books file show, and sound books: the laws of acceptance's Sound, of these lists.
-use Rattle.std.specs.Prelude.{◌≡◌, refl, Bool, true, false, ◌&&◌, List, ℕ, ◌+◌, ◌≤◌, ◌<◌, leb, drop}
-use Rattle.std.proofs.Common.{sym, ap, ◌∙◌}
+use Rattle.std.specs.Prelude.{◌≡◌, refl, Bool, true, false, ◌&&◌, List, ℕ, zero, suc, ◌+◌, ◌≤◌, ◌<◌, drop}
+use Rattle.std.specs.List.{list_all, range_with_len}
+use Rattle.std.proofs.Common.{sym, ap, ◌∙◌, arith}
 use Rattle.lists.specs.Base.{every}
-use Rattle.tables.specs.Rows.{length_rows}
+use Rattle.tables.specs.Rows.{rows, rows_ext, length_rows}
 use Rattle.rules.specs.Types.{BOUND, Settings}
-use Rattle.rules.specs.Acceptance.{sound_books, epoch_within, deposit_in, consolidation_in}
+use Rattle.rules.specs.Acceptance.{sound_books, deposit_in, consolidation_in}
 use Rattle.primitives.specs.declared.Scalars.{Scalars}
 use Rattle.acceptance.specs.Tests.{validator_within, partial_within, scalars_within, tested_sum}
 use Rattle.acceptance.specs.Sound as lists
 use Rattle.acceptance.specs.Sound.{books_with, Counted, BalancesSum, HeldSum, PartialsSum}
-use Rattle.file_format.specs.Fields.{flag}
 use Rattle.file_format.specs.Books.{validator, deposit, partial, consolidation}
-use Rattle.file_format.specs.Places.{number_at, books_at}
-use Rattle.file_format.specs.Places.{deposits_place, partials_place, consolidations_place}
+use Rattle.file_format.specs.Places.{books_at, deposits_place, partials_place, consolidations_place}
 use Rattle.file_records.specs.Scalars.{scalars_at}
 use Rattle.file_records.specs.Books.{validators_counted, deposits_counted, partials_counted, consolidations_counted}
 use Rattle.file_records.specs.Books.{file_validators, file_deposits, file_partials, file_consolidations, file_books}
-use Rattle.file_records.specs.Laws.{validator_there}
 use Rattle.file_records.specs.Lists.{records_from, listed_from}
 
--- ---- a validator at word k: its tests, and its balance
+-- ---- records, each tested in its place
 
-pub validator_tested : (ws : List ℕ) (k most : ℕ) {f b₁ b₂ b₃ b₄ b₅ : ℕ} {epochs : Bool}
-    → f ≡ flag.value (drop (k + 27) ws) → b₁ ≡ number_at ws (k + 28) → b₂ ≡ number_at ws (k + 31)
-    → b₃ ≡ number_at ws (k + 34) → b₄ ≡ number_at ws (k + 37) → b₅ ≡ number_at ws (k + 40)
-    → epochs ≡ (epoch_within b₂ && epoch_within b₃ && epoch_within b₄ && epoch_within b₅)
-    → (leb b₁ most && leb f 1 && epochs) ≡ validator_within most (validator.value (drop k ws))
-validator_tested ws k most p q₁ q₂ q₃ q₄ q₅ e =
-    let s = e ∙ λ j. (epoch_within (q₂ j) && epoch_within (q₃ j) && epoch_within (q₄ j) && epoch_within (q₅ j)) in
-    (λ j. (leb (q₁ j) most && leb (p j) 1 && s j)) ∙ sym (ap (validator_within most) (validator_there ws k))
+module _ {A : Type 0} (t : A → Bool) (g : ℕ → A) where
+  all_from : (n i : ℕ) → list_all (λ j. t (g j)) (range_with_len i n) ≡ every t (rows n (λ j. g (i + j)))
+  unfolding rows
+  all_from zero i = refl
+  all_from (suc n) i =
+      let here : i + 0 ≡ i = omega arith in
+      let later : rows n (λ j. g (i + 1 + j)) ≡ rows n (λ j. g (i + suc j)) =
+      rows_ext n _ _ (λ j h. ap g (omega arith)) in
+      (λ j. t (g (sym here j)) && (all_from n (i + 1) ∙ ap (every t) later) j)
 
-pub balance_there : (ws : List ℕ) (k : ℕ) → number_at ws (k + 43) ≡ (validator.value (drop k ws)).balance
-balance_there ws k = sym (ap (λ v. v.balance) (validator_there ws k))
+  -- all of n rows pass
+  pub rows_all : (n : ℕ) → list_all (λ j. t (g j)) (range_with_len 0 n) ≡ every t (rows n g)
+  rows_all n = all_from n 0 ∙ ap (every t) (rows_ext n (λ j. g (0 + j)) g (λ j h. ap g (omega arith)))
 
 -- ---- sound books
 
@@ -44,45 +44,43 @@ module _ (S : Settings) (ws : List ℕ) {s : Scalars} (e : s ≡ scalars_at ws) 
     consolidations = length_rows _ _ ∙ sym (consolidations_counted ws e);
   }
 
-  -- what each pass computes
+  -- what each pass computes, over the words behind the count
 
-  pub balances_summed : {sum : ℕ}
+  pub balances_summed : {records : List ℕ} {sum : ℕ} → records ≡ drop 86 ws
       → sum
       ≡ tested_sum (validator_within S.max_effective_balance_electra) (λ v. v.balance) 0
-      (records_from validator 46 86 s.validators ws)
+      (records_from validator 46 s.validators records)
       → BalancesSum S (file_validators ws) sum
-  balances_summed h =
+  balances_summed q h =
       h
       ∙ ap (tested_sum (validator_within S.max_effective_balance_electra) (λ v. v.balance) 0)
-      (listed_from validator 46 ws refl (validators_counted ws e))
+      (listed_from validator 46 85 ws q (validators_counted ws e))
 
-  pub held_summed : (start : ℕ) {p sum : ℕ} → p ≡ deposits_place ws
+  pub held_summed : (start : ℕ) {records : List ℕ} {sum : ℕ} → records ≡ drop (deposits_place ws + 1) ws
       → sum
-      ≡ tested_sum (deposit_in s.validators) (λ d. d.amount) start
-      (records_from deposit 6 (p + 1) s.deposits ws)
+      ≡ tested_sum (deposit_in s.validators) (λ d. d.amount) start (records_from deposit 6 s.deposits records)
       → HeldSum s (file_deposits ws) start sum
   held_summed start q h =
       h
       ∙ ap (tested_sum (deposit_in s.validators) (λ d. d.amount) start)
-      (listed_from deposit 6 ws q (deposits_counted ws e))
+      (listed_from deposit 6 (deposits_place ws) ws q (deposits_counted ws e))
 
-  pub partials_summed : {p sum : ℕ} → p ≡ partials_place ws
+  pub partials_summed : {records : List ℕ} {sum : ℕ} → records ≡ drop (partials_place ws + 1) ws
       → sum
-      ≡ tested_sum (partial_within s.validators) (λ p. p.amount) 0
-      (records_from partial 9 (p + 1) s.partials ws)
+      ≡ tested_sum (partial_within s.validators) (λ p. p.amount) 0 (records_from partial 9 s.partials records)
       → PartialsSum s (file_partials ws) sum
   partials_summed q h =
       h
       ∙ ap (tested_sum (partial_within s.validators) (λ p. p.amount) 0)
-      (listed_from partial 9 ws q (partials_counted ws e))
+      (listed_from partial 9 (partials_place ws) ws q (partials_counted ws e))
 
-  pub consolidations_tested : {p : ℕ} {t : Bool} → p ≡ consolidations_place ws
-      → t ≡ every (consolidation_in s.validators) (records_from consolidation 6 (p + 1) s.consolidations ws)
+  pub consolidations_tested : {records : List ℕ} {t : Bool} → records ≡ drop (consolidations_place ws + 1) ws
+      → t ≡ every (consolidation_in s.validators) (records_from consolidation 6 s.consolidations records)
       → t ≡ every (consolidation_in s.validators) (file_consolidations ws)
   consolidations_tested q h =
       h
       ∙ ap (every (consolidation_in s.validators))
-      (listed_from consolidation 6 ws q (consolidations_counted ws e))
+      (listed_from consolidation 6 (consolidations_place ws) ws q (consolidations_counted ws e))
 
   -- the books
 

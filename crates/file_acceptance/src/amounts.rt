@@ -1,5 +1,5 @@
 // The amounts that a list of the file holds, each of a record that passes its tests, and their sum in one pass.
-ghost use Rattle.std.specs.Prelude.{◌≡◌, true, false, ◌≤◌, ◌<◌, ◌^◌, ℕ, Bool, drop, MatchOption};
+ghost use Rattle.std.specs.Prelude.{◌≡◌, true, false, ◌≤◌, ◌<◌, ℕ, Bool, MatchOption};
 ghost use Rattle.rules.specs.Types as rule;
 ghost use Rattle.rules.specs.Acceptance.{deposit_in};
 ghost use Rattle.acceptance.specs.Tests.{validator_within, partial_within, tested_sum, bounded};
@@ -9,8 +9,9 @@ ghost use Rattle.file_format.specs.Books.{validator, deposit, partial};
 ghost use Rattle.file_records.specs.Lists.{records_from, Readable};
 
 use acceptance::record::{epochs_within, partial_within};
+use file_records::numbers_at;
 use file_records::record::FileRecord;
-use file_words::{flag_at, number_at};
+use file_words::{behind, flag_at, number_at};
 use primitives::{BOUND, Epoch, Gwei};
 use records::queues::{PendingBalanceDeposit, PendingPartialWithdrawal};
 
@@ -29,11 +30,10 @@ pub trait Amounts: Copy {
 
     const WORDS: usize;
 
-    // The amount of the record at word k; None where it fails its tests.
-    fn amount_at(self, file: &[u8], k: usize) -> Option<Gwei>
-        requires k_bound { k ≤ 2 ^ 39 }
-        requires well_formed { format.ok (drop k (words file.now)) ≡ true }
-        ensures { let x = format.value (drop k (words file.now)) in
+    // The amount of the record at the front of what is left of a file; None where it fails its tests.
+    fn amount_at(self, rest: &[u8]) -> Option<Gwei>
+        requires { format.ok (words rest.now) ≡ true }
+        ensures { let x = format.value (words rest.now) in
             MatchOption result (within self x ≡ false)
             (λ a. (within self x ≡ true) × (a.0 ≡ amount x)) };
 }
@@ -46,19 +46,25 @@ pub struct Balances {
     pub most: Gwei,
 }
 
-// Effective balance at most `most`, flag and epochs of the validator at word k.
-fn validator_within(most: Gwei, file: &[u8], k: usize) -> bool
-    requires k_bound { k ≤ 2 ^ 39 }
-    requires well_formed { validator.ok (drop k (words file.now)) ≡ true }
-    ensures { result ≡ validator_within most.0 (validator.value (drop k (words file.now))) }
+// Effective balance at most `most`, flag and epochs of the validator.
+fn validator_within(most: Gwei, rest: &[u8]) -> bool
+    requires { validator.ok (words rest.now) ≡ true }
+    ensures { result ≡ validator_within most.0 (validator.value (words rest.now)) }
 {
-    let slashed = flag_at(file, k + 27);
-    let effective_balance = number_at(file, k + 28);
+    let slashed = flag_at(behind(rest, 27));
+    let [
+        effective_balance,
+        eligibility,
+        activation,
+        exit,
+        withdrawable,
+        _,
+    ] = numbers_at::<6>(behind(rest, 28));
     let epochs = epochs_within(
-        Epoch(number_at(file, k + 31)),
-        Epoch(number_at(file, k + 34)),
-        Epoch(number_at(file, k + 37)),
-        Epoch(number_at(file, k + 40)),
+        Epoch(eligibility),
+        Epoch(activation),
+        Epoch(exit),
+        Epoch(withdrawable),
     );
     (effective_balance <= most.0) & (slashed <= 1) & epochs
 }
@@ -76,11 +82,11 @@ impl Amounts for Balances {
 
     const WORDS: usize = 46;
 
-    fn amount_at(self, file: &[u8], k: usize) -> Option<Gwei> {
-        if !validator_within(self.most, file, k) {
+    fn amount_at(self, rest: &[u8]) -> Option<Gwei> {
+        if !validator_within(self.most, rest) {
             return None;
         }
-        Some(Gwei(number_at(file, k + 43)))
+        Some(Gwei(number_at(behind(rest, 43))))
     }
 }
 
@@ -103,8 +109,8 @@ impl Amounts for Deposits {
 
     const WORDS: usize = 6;
 
-    fn amount_at(self, file: &[u8], k: usize) -> Option<Gwei> {
-        let deposit = PendingBalanceDeposit::read(file, k);
+    fn amount_at(self, rest: &[u8]) -> Option<Gwei> {
+        let deposit = PendingBalanceDeposit::read(rest);
         if deposit.index.0 >= self.validators {
             return None;
         }
@@ -131,8 +137,8 @@ impl Amounts for Partials {
 
     const WORDS: usize = 9;
 
-    fn amount_at(self, file: &[u8], k: usize) -> Option<Gwei> {
-        let partial = PendingPartialWithdrawal::read(file, k);
+    fn amount_at(self, rest: &[u8]) -> Option<Gwei> {
+        let partial = PendingPartialWithdrawal::read(rest);
         if !partial_within(partial, self.validators) {
             return None;
         }
@@ -142,17 +148,17 @@ impl Amounts for Partials {
 
 // ---- a pass over a list
 
-// `start` and the amounts of m records from word k on; None where a record fails its tests, or the sum is over BOUND.
-pub fn sum<A: Amounts>(amounts: A, start: Gwei, file: &[u8], k: usize, m: usize) -> Option<Gwei>
+// `start` and the amounts of the first m records; None where one fails its tests, or the sum is over BOUND.
+pub fn sum<A: Amounts>(amounts: A, start: Gwei, records: &[u8], m: usize) -> Option<Gwei>
     requires start_le_bound { start.0 ≤ rule.BOUND }
-    requires readable { Readable A.format A.WORDS k m (words file.now) }
+    requires readable { Readable A.format A.WORDS m (words records.now) }
     ensures { result
         ≡ bounded (tested_sum (A.within amounts) A.amount start.0
-        (records_from A.format A.WORDS k m (words file.now))) }
+        (records_from A.format A.WORDS m (words records.now))) }
 {
     let mut sum = start.0;
     for i in 0..m {
-        let amount = amounts.amount_at(file, k + i * A::WORDS)?;
+        let amount = amounts.amount_at(behind(records, i * A::WORDS))?;
         if amount.0 > BOUND - sum {
             return None;
         }

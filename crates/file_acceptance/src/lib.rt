@@ -12,68 +12,58 @@ ghost use Rattle.primitives.specs.Settings.{settings_of};
 ghost use Rattle.file_format.specs.Words.{words};
 ghost use Rattle.file_format.specs.Books.{consolidation};
 ghost use Rattle.file_format.specs.Places.{books_at};
-ghost use Rattle.file_format.specs.PlacesLaws.{Good};
 ghost use Rattle.file_records.specs.Scalars.{scalars_at};
 ghost use Rattle.file_records.specs.Lists.{records_from, Readable};
 
 use acceptance::record::consolidation_in;
 use acceptance::scalars_within;
 use amounts::{Balances, Deposits, Partials};
-use books_file::{consolidations_place, deposits_place, partials_place};
+use books_file::{BooksFile, lists_of};
 use file_records::record::FileRecord;
+use file_words::behind;
 use primitives::{Gwei, Scalars, Settings};
 use records::queues::PendingConsolidation;
 
-// Whether m consolidations from word k on are of validators below n.
-fn consolidations_in(file: &[u8], k: usize, m: usize, n: usize) -> bool
-    requires { Readable consolidation 6 k m (words file.now) }
-    ensures { result ≡ every (consolidation_in n) (records_from consolidation 6 k m (words file.now)) }
+// Whether the first m consolidations are of validators below n.
+fn consolidations_in(records: &[u8], m: usize, n: usize) -> bool
+    requires { Readable consolidation 6 m (words records.now) }
+    ensures { result ≡ every (consolidation_in n) (records_from consolidation 6 m (words records.now)) }
 {
-    for i in 0..m {
-        let consolidation = PendingConsolidation::read(file, k + i * 6);
-        if !consolidation_in(consolidation, n) {
-            return false;
-        }
-    }
-    true
+    (0..m).all(|i| consolidation_in(PendingConsolidation::read(behind(records, i * 6)), n))
 }
 
 // The books of a file that was judged good, with its scalars.
-pub fn file_books_sound(settings: Settings, scalars: Scalars, file: &[u8]) -> bool
-    requires good { Good (words file.now) }
-    requires scalars_read { scalars ≡ scalars_at (words file.now) }
-    ensures { result ≡ sound_books (settings_of settings) (books_at (words file.now)) }
+pub fn file_books_sound(settings: Settings, scalars: Scalars, file: BooksFile<'_>) -> bool
+    requires { scalars ≡ scalars_at (words file.bytes.now) }
+    ensures { result ≡ sound_books (settings_of settings) (books_at (words file.entry.bytes.now)) }
 {
     if !scalars_within(settings, scalars) {
         return false;
     }
+    let lists = lists_of(file.bytes);
     let n = scalars.validators;
     let most = settings.max_effective_balance_electra;
-    let Some(balances) = amounts::sum(Balances { most }, Gwei(0), file, 86, n) else {
+    let validators = behind(lists.validators, 1);
+    let Some(balances) = amounts::sum(Balances { most }, Gwei(0), validators, n) else {
         return false;
     };
+    let deposits = behind(lists.deposits, 1);
     let Some(_held) = amounts::sum(
         Deposits { validators: n },
         balances,
-        file,
-        deposits_place(file) + 1,
+        deposits,
         scalars.deposits,
     ) else {
         return false;
     };
+    let partials = behind(lists.partials, 1);
     let Some(_withdrawn) = amounts::sum(
         Partials { validators: n },
         Gwei(0),
-        file,
-        partials_place(file) + 1,
+        partials,
         scalars.partials,
     ) else {
         return false;
     };
-    consolidations_in(
-        file,
-        consolidations_place(file) + 1,
-        scalars.consolidations,
-        n,
-    )
+    consolidations_in(behind(lists.consolidations, 1), scalars.consolidations, n)
 }

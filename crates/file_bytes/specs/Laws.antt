@@ -1,7 +1,9 @@
 -- The facts that the reads of a field's bytes are proved by.
-use Rattle.std.specs.Prelude.{◌≡◌, refl, Bool, true, false, List, [], ◌∷◌, ◌++◌, ℕ, zero, suc, ◌+◌, ◌*◌, ◌/◌, ◌%◌, ◌^◌, ◌≤◌, ◌<◌, eqb, ltb, length, take, drop}
+use Rattle.std.specs.Prelude.{◌≡◌, refl, Bool, true, false, List, [], ◌∷◌, ◌++◌, ℕ, zero, suc, ◌+◌, ◌*◌, ◌/◌, ◌%◌, ◌^◌}
+use Rattle.std.specs.Prelude.{◌≤◌, ◌<◌, eqb, ltb, length, take, drop}
 use Rattle.std.proofs.Math.Path.{sym}
-use Rattle.std.proofs.Common.{ap, ◌∙◌, append-nil, append_assoc, add-one, zero-add, length-drop, length-take-le, drop_of_length-le, drop-drop, drop-cons, drop_at, get_or-drop, take_all, take_at}
+use Rattle.std.proofs.Common.{ap, ◌∙◌, append-nil, append_assoc, add-one, zero-add, length-take-le, drop_of_length-le}
+use Rattle.std.proofs.Common.{drop-drop, drop-cons, drop_at, get_or-drop, take_all, take_at}
 use native.Mathlib.Omega.{arith}
 use borrow.Author.Tests.{ltb-true, ltb-false}
 use Rattle.std.proofs.Math.ListN.{get_or, get_or-eq_default}
@@ -38,7 +40,11 @@ put_more l s m ys j w i h e p q =
 -- all bytes of s were put
 pub put_all : (l s m : List ℕ) (n : ℕ) → length l ≤ n → length s ≤ n → m ≡ paste l 0 s n → m ≡ s
 put_all l s m n h g e =
-    e ∙ at_start l s n ∙ ap (λ r. take n s ++ r) (drop_of_length-le l {i = n} h) ∙ append-nil (take n s) ∙ take_all n s g
+    e
+    ∙ at_start l s n
+    ∙ ap (λ r. take n s ++ r) (drop_of_length-le l {i = n} h)
+    ∙ append-nil (take n s)
+    ∙ take_all n s g
 
 one_more : (s : List ℕ) (j r x : ℕ) (ys : List ℕ) → j < length s → x ≡ get_or s j 0 → ys ≡ take r (drop (j + 1) s)
     → x ∷ ys ≡ take (suc r) (drop j s)
@@ -58,9 +64,9 @@ field_word (suc (suc (suc n))) (suc i) us h e =
     let q : 1 + i ≡ suc i = omega arith in
     rw (get_or-drop, q) at (field_word n i (drop 1 us) (omega arith) more)
 
-module _ (bs : List ℕ) (k n : ℕ) (e : (field n).ok (drop k (words bs)) ≡ true) where
+module _ (bs : List ℕ) (n : ℕ) (e : (field n).ok (words bs) ≡ true) where
   abbrev us : List ℕ
-  us = drop k (words bs)
+  us = words bs
 
   pub field_size : length ((field n).value us) ≡ n
   unfolding field
@@ -71,26 +77,26 @@ module _ (bs : List ℕ) (k n : ℕ) (e : (field n).ok (drop k (words bs)) ≡ t
     unfolding field
     three = field_word n i us h e
 
-    -- word i lies within the file
-    pub field_inside : k + i < length bs / 4
-    field_inside = go (ltb (k + i) (length bs / 4)) refl
+    -- word i is there
+    pub field_inside : i < length bs / 4
+    field_inside = go (ltb i (length bs / 4)) refl
       where
-        go : (t : Bool) → ltb (k + i) (length bs / 4) ≡ t → k + i < length bs / 4
+        go : (t : Bool) → ltb i (length bs / 4) ≡ t → i < length bs / 4
         go true p = ltb-true _ _ p
         go false p =
-            let l : length bs / 4 ≤ k + i = ltb-false _ _ p in
-            let behind : length us ≤ i = omega (arith, length-drop k (words bs), length_words bs) in
+            let l : length bs / 4 ≤ i = ltb-false _ _ p in
+            let behind : length us ≤ i = omega (arith, length_words bs) in
             let none : get_or us i 0 ≡ 0 = get_or-eq_default us 0 behind in
             impossible (sym (ap is_three_bytes none) ∙ three)
 
     -- its bytes, as the file has them
     abbrev at : ℕ
-    at = (k + i) * 4
+    at = i * 4
 
     module _ (small : (q : ℕ) → get_or bs q 0 < 256) where
       the_word : get_or us i 0
           ≡ get_or bs at 0 + get_or bs (at + 1) 0 * 256 + get_or bs (at + 2) 0 * 65536 + get_or bs (at + 3) 0 * 16777216
-      the_word = get_or-drop k (words bs) i 0 ∙ word_at bs (k + i) field_inside
+      the_word = word_at bs i field_inside
 
       first_byte : get_or bs (at + 2) 0 ≡ get_or ((field n).value us) (i * 3) 0
       unfolding field when◌then◌else◌

@@ -1,36 +1,36 @@
--- The codes of calls, and a bound on the sum that the books hold.
-use Rattle.std.specs.Prelude.{◌≡◌, refl, true, List, ℕ, zero, suc, ◌+◌, ◌≤◌, drop}
-use Rattle.std.proofs.Common.{ap, ◌∙◌, arith}
+-- A call by its code, and a bound on the sum that the books hold.
+use Rattle.std.specs.Prelude.{◌≡◌, refl, List, ℕ, ◌≤◌, drop}
+use Rattle.std.proofs.Common.{sym, ap, ◌∙◌, arith}
 use Rattle.rules.specs.Types as rule
 use Rattle.rules.specs.Types.{BOUND}
 use Rattle.primitives.specs.declared.Scalars.{Scalars}
 use Rattle.records.specs.Books.{Tables}
 use Rattle.acceptance.specs.Handed.{facts}
-use Rattle.file_format.specs.Words.{words}
-use Rattle.file_format.proofs.FieldsLaws.{impossible}
-use Rattle.file_format.specs.Calls.{written, call_format}
-use Rattle.calls_reader.specs.Widths.{code_at, call_value_at, fields_good}
-use Rattle.file_calls.specs.Ready.{Accepted, Holds, CallAt, operation_at}
+use Rattle.file_format.specs.Calls.{written, call, call_format}
+use Rattle.calls_reader.specs.Widths.{code_of, call_value}
+use Rattle.calls_reader.specs.Plain.{kind_code}
+use Rattle.calls_reader.specs.declared.Kind.{Kind}
+use Rattle.calls_reader.specs.declared.Kind.TheVariants as kind
+use Rattle.file_calls.specs.Ready.{Accepted, Holds}
 
--- ---- the call at word k
+-- ---- us are the words of a call, from its code on
 
-code_kept : (c : ℕ) (us : List ℕ) → (call_format c).ok us ≡ true → (written ((call_format c).value us)).code ≡ c
-code_kept zero us e = impossible e
-code_kept (suc zero) us e = refl
-code_kept (suc (suc zero)) us e = refl
-code_kept (suc (suc (suc zero))) us e = refl
-code_kept (suc (suc (suc (suc zero)))) us e = refl
-code_kept (suc (suc (suc (suc (suc zero))))) us e = refl
-code_kept (suc (suc (suc (suc (suc (suc zero)))))) us e = refl
-code_kept (suc (suc (suc (suc (suc (suc (suc zero))))))) us e = refl
-code_kept (suc (suc (suc (suc (suc (suc (suc (suc zero)))))))) us e = refl
-code_kept (suc (suc (suc (suc (suc (suc (suc (suc (suc c))))))))) us e = impossible e
+pub of_code : (us : List ℕ) (c : ℕ) → code_of us ≡ c → (call_format c).value (drop 1 us) ≡ call.value us
+of_code us c e = ap (λ n. (call_format n).value (drop 1 us)) (sym e) ∙ sym (call_value us)
 
-module _ {file : List ℕ} {k : ℕ} (c : CallAt file k) where
-  pub code_written : (written (operation_at file k)).code ≡ code_at (words file) k
-  code_written =
-      ap (λ o. (written o).code) (call_value_at (words file) k)
-      ∙ code_kept (code_at (words file) k) (drop (k + 1) (words file)) (fields_good (words file) k c.good)
+code_kept : (k : Kind) (us : List ℕ) → kind_code k ≡ (written ((call_format (kind_code k)).value us)).code
+code_kept kind.Reward us = refl
+code_kept kind.Penalty us = refl
+code_kept kind.DepositReceipt us = refl
+code_kept kind.VoluntaryExit us = refl
+code_kept kind.WithdrawalRequest us = refl
+code_kept kind.Consolidation us = refl
+code_kept kind.Turn us = refl
+code_kept kind.Withdrawals us = refl
+
+-- its code is written as it was read
+pub code_written : (k : Kind) (us : List ℕ) → kind_code k ≡ code_of us → kind_code k ≡ (written (call.value us)).code
+code_written k us e = code_kept k (drop 1 us) ∙ ap (λ o. (written o).code) (of_code us (kind_code k) (sym e))
 
 -- ---- the sum that the books hold
 

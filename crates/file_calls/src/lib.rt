@@ -1,5 +1,8 @@
-// One call of a calls file, carried out on accepted books. The file was judged good, and the call stands at word k. The
-// sum that the books hold comes along, so that no call adds the balances up to judge 41.
+// One call of a calls file, carried out on accepted books. The sum that the books hold comes along, so that no call
+// adds the balances up to judge 41.
+
+// The tables stay apart in this file, and what is known of them stays a clause: a call writes some and only reads the
+// others, as C lends them.
 
 #![tactic(auto)]
 
@@ -8,10 +11,10 @@ ghost use Rattle.primitives.specs.Answers.{answer_number, answer_or};
 ghost use Rattle.primitives.specs.Settings.{settings_of};
 ghost use Rattle.records.specs.Books.{tables, Called};
 ghost use Rattle.file_format.specs.Words.{words};
-ghost use Rattle.calls_reader.specs.Widths.{code_at};
-ghost use Rattle.file_calls.specs.Ready.{Accepted, Holds, CallAt, operation_at};
+ghost use Rattle.calls_reader.specs.Widths.{code_of};
+ghost use Rattle.file_calls.specs.Ready.{Accepted, Holds, operation_of};
 
-use calls_reader::Kind;
+use calls_reader::{EncodedCall, Kind};
 use primitives::answers::Refusal;
 use primitives::{Gwei, Scalars, Settings};
 
@@ -24,20 +27,18 @@ fn withdrawals(
     deposits: &[u64],
     partials: &mut [u64],
     consolidations: &[u64],
-    file: &[u8],
-    k: usize,
+    call: EncodedCall<'_>,
 ) -> Result<Scalars, Refusal>
     requires accepted { Accepted (settings_of settings) scalars
         (tables identities.now validators.old deposits.now partials.old consolidations.now) }
-    requires call_at { CallAt file.now k }
-    requires code { code_at (words file.now) k ≡ 8 }
-    ensures { Called (settings_of settings) (operation_at file.now k) scalars
+    requires code { code_of (words call.rest.now) ≡ 8 }
+    ensures { Called (settings_of settings) (operation_of call.entry.rest.now) scalars
         (tables identities.now validators.old deposits.now
         partials.old consolidations.now)
         (tables identities.now validators.new deposits.now
         partials.new consolidations.now) (answer_number result) (answer_or scalars result) }
 {
-    let paid = calls_reader::withdrawals_at(file, k);
+    let paid = call.withdrawals();
     operations::payments::process_withdrawals_accepted(
         settings,
         scalars,
@@ -60,24 +61,22 @@ pub fn carry_out_call(
     partials: &mut [u64],
     consolidations: &mut [u64],
     sum: Gwei,
-    file: &[u8],
-    k: usize,
+    call: EncodedCall<'_>,
 ) -> Result<Scalars, Refusal>
     requires accepted { Accepted (settings_of settings) scalars
         (tables identities.old validators.old deposits.old partials.old consolidations.old) }
-    requires call_at { CallAt file.now k }
     requires holds { Holds scalars
         (tables identities.old validators.old deposits.old partials.old consolidations.old) sum.0 }
-    ensures { Called (settings_of settings) (operation_at file.now k) scalars
+    ensures { Called (settings_of settings) (operation_of call.entry.rest.now) scalars
         (tables identities.old validators.old deposits.old
         partials.old consolidations.old)
         (tables identities.new validators.new deposits.new
         partials.new consolidations.new) (answer_number result) (answer_or scalars result) }
 {
-    // By kind, not by `call_at`: copying a `Call`, with room for sixteen withdrawals, made a reward take 69 ns, not 17.
-    match calls_reader::kind_at(file, k) {
+    // By kind, not by `call`: copying a `Call`, with room for sixteen withdrawals, made a reward take 69 ns, not 17.
+    match call.kind() {
         Kind::Reward => {
-            let reward = calls_reader::amount_at(file, k);
+            let reward = call.amount();
             let sums = acceptance::sum_within(sum, reward.amount);
             rewards::reward::reward_accepted(
                 settings,
@@ -93,7 +92,7 @@ pub fn carry_out_call(
             )
         }
         Kind::Penalty => {
-            let penalty = calls_reader::amount_at(file, k);
+            let penalty = call.amount();
             rewards::penalty::penalty_accepted(
                 settings,
                 scalars,
@@ -107,7 +106,7 @@ pub fn carry_out_call(
             )
         }
         Kind::DepositReceipt => {
-            let receipt = calls_reader::receipt_at(file, k);
+            let receipt = call.receipt();
             let sums = acceptance::sum_within(sum, receipt.amount);
             receipt_operations::process_deposit_receipt(
                 settings,
@@ -126,7 +125,7 @@ pub fn carry_out_call(
             )
         }
         Kind::VoluntaryExit => {
-            let exit = calls_reader::exit_at(file, k);
+            let exit = call.exit();
             exit_operations::process_voluntary_exit(
                 settings,
                 scalars,
@@ -141,7 +140,7 @@ pub fn carry_out_call(
             )
         }
         Kind::WithdrawalRequest => {
-            let request = calls_reader::request_at(file, k);
+            let request = call.request();
             request_operations::process_execution_layer_withdrawal_request(
                 settings,
                 scalars,
@@ -156,7 +155,7 @@ pub fn carry_out_call(
             )
         }
         Kind::Consolidation => {
-            let asked = calls_reader::consolidation_at(file, k);
+            let asked = call.consolidation();
             consolidation_operations::process_consolidation(
                 settings,
                 scalars,
@@ -188,8 +187,7 @@ pub fn carry_out_call(
             deposits,
             partials,
             consolidations,
-            file,
-            k,
+            call,
         ),
     }
 }

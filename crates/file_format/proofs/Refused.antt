@@ -1,5 +1,6 @@
 -- Broken files, computed by the checker: each is refused (60), the file that it was made of is not.
-use Rattle.std.specs.Prelude.{◌≡◌, refl, Bool, true, false, not, List, [], ◌∷◌, ◌++◌, ℕ, zero, suc, ◌+◌, ◌-◌, ◌*◌, length, set, take, replicate}
+use Rattle.std.specs.Prelude.{◌≡◌, refl, Bool, true, false, not, List, [], ◌∷◌, ◌++◌, ℕ, zero, suc, ◌+◌, ◌-◌, ◌*◌}
+use Rattle.std.specs.Prelude.{length, set, take, replicate}
 use Rattle.lists.specs.Base.{every}
 use Rattle.rules.specs.Examples.{G, with_limits, validator, deposit, books}
 use Rattle.file_format.specs.Words.{bytes, with_end}

@@ -1,5 +1,6 @@
 -- Formats: how a value stands in the words of a file. The fields of the file, and the ways to make a format of others.
-use Rattle.std.specs.Prelude.{Bool, true, ◌&&◌, List, [], ◌∷◌, ◌++◌, ℕ, zero, suc, ◌+◌, ◌*◌, ◌/◌, ◌%◌, ◌^◌, length, get_or, drop, ltb, eqb}
+use Rattle.std.specs.Prelude.{Bool, true, ◌&&◌, List, [], ◌∷◌, ◌++◌, ℕ, zero, suc, ◌+◌, ◌*◌, ◌/◌, ◌%◌, ◌^◌, length}
+use Rattle.std.specs.Prelude.{get_or, drop, ltb, eqb}
 use Rattle.lists.specs.Base.{every}
 use Rattle.file_format.specs.Words.{word, payload, is_word, is_byte}
 

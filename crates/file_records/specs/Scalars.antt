@@ -1,25 +1,7 @@
 -- The scalars of a books file, as the declared struct: the nine numbers, and the four counts.
-use Rattle.std.specs.Prelude.{List, ℕ, get_or}
+use Rattle.std.specs.Prelude.{List, ℕ}
 use Rattle.primitives.specs.declared.Scalars.{Scalars}
 use Rattle.file_format.specs.Places.{number_at, count_at, deposits_place, partials_place, consolidations_place}
-
--- from the 28 numbers behind the head, of which the last nine are the scalars, and the counts
-abbrev pub scalars_from : List ℕ → (v d p c : ℕ) → Scalars
-scalars_from row v d p c = record {
-  epoch = record { 0 = get_or row 19 0 };
-  next_withdrawal_index = record { 0 = get_or row 20 0 };
-  next_withdrawal_validator_index = record { 0 = get_or row 21 0 };
-  deposit_receipts_start_index = get_or row 22 0;
-  deposit_balance_to_consume = record { 0 = get_or row 23 0 };
-  exit_balance_to_consume = record { 0 = get_or row 24 0 };
-  earliest_exit_epoch = record { 0 = get_or row 25 0 };
-  consolidation_balance_to_consume = record { 0 = get_or row 26 0 };
-  earliest_consolidation_epoch = record { 0 = get_or row 27 0 };
-  validators = v;
-  deposits = d;
-  partials = p;
-  consolidations = c;
-}
 
 unfoldable pub scalars_at : List ℕ → Scalars
 scalars_at ws = record {

@@ -1,6 +1,9 @@
 // A record of a queue: read from a file and put into one, taken from a lent table and pushed into one. Only what was
 // judged good is read, so nothing is tested here.
-ghost use Rattle.std.specs.Prelude.{◌≡◌, true, ◌+◌, ◌*◌, ◌/◌, ◌≤◌, ◌<◌, ◌^◌, List, ℕ, length, drop};
+
+// A record stays put by a buffer and a word of it, two parameters as in file_stores.
+
+ghost use Rattle.std.specs.Prelude.{◌≡◌, true, ◌+◌, ◌*◌, ◌/◌, ◌≤◌, ◌<◌, List, ℕ, length};
 ghost use Rattle.rules.specs.Types as rule;
 ghost use Rattle.records.specs.Layout.{deposit_at, partial_at, consolidation_at};
 ghost use Rattle.records.specs.Plain.{plain_deposit, plain_partial, plain_consolidation};
@@ -11,8 +14,8 @@ ghost use Rattle.file_format.specs.Books.{deposit, partial, consolidation};
 ghost use Rattle.file_format.specs.PutLaws.{put};
 ghost use Rattle.file_records.specs.Sizes.{deposit_length, partial_length, consolidation_length};
 
+use crate::numbers_at;
 use file_stores::put_numbers;
-use file_words::number_at;
 use primitives::{Epoch, Gwei, ValidatorIndex};
 use records::queues;
 use records::queues::{PendingBalanceDeposit, PendingConsolidation, PendingPartialWithdrawal};
@@ -35,11 +38,10 @@ pub trait FileRecord: Copy {
 
     const WORDS: usize;
 
-    // The record at word k of the file.
-    fn read(file: &[u8], k: usize) -> Self
-        requires k_bound { k ≤ 2 ^ 39 }
-        requires well_formed { format.ok (drop k (words file.now)) ≡ true }
-        ensures { plain result ≡ format.value (drop k (words file.now)) };
+    // The record at the front of what is left of a file.
+    fn read(rest: &[u8]) -> Self
+        requires { format.ok (words rest.now) ≡ true }
+        ensures { plain result ≡ format.value (words rest.now) };
 
     fn put(self, out: &mut [u8], k: usize)
         requires { (k + WORDS) * 4 ≤ length out.old }
@@ -75,10 +77,11 @@ impl FileRecord for PendingBalanceDeposit {
 
     const WORDS: usize = 6;
 
-    fn read(file: &[u8], k: usize) -> PendingBalanceDeposit {
+    fn read(rest: &[u8]) -> PendingBalanceDeposit {
+        let [index, amount] = numbers_at::<2>(rest);
         PendingBalanceDeposit {
-            index: ValidatorIndex(number_at(file, k) as usize),
-            amount: Gwei(number_at(file, k + 3)),
+            index: ValidatorIndex(index as usize),
+            amount: Gwei(amount),
         }
     }
 
@@ -113,11 +116,12 @@ impl FileRecord for PendingPartialWithdrawal {
 
     const WORDS: usize = 9;
 
-    fn read(file: &[u8], k: usize) -> PendingPartialWithdrawal {
+    fn read(rest: &[u8]) -> PendingPartialWithdrawal {
+        let [index, amount, epoch] = numbers_at::<3>(rest);
         PendingPartialWithdrawal {
-            index: ValidatorIndex(number_at(file, k) as usize),
-            amount: Gwei(number_at(file, k + 3)),
-            withdrawable_epoch: Epoch(number_at(file, k + 6)),
+            index: ValidatorIndex(index as usize),
+            amount: Gwei(amount),
+            withdrawable_epoch: Epoch(epoch),
         }
     }
 
@@ -156,10 +160,11 @@ impl FileRecord for PendingConsolidation {
 
     const WORDS: usize = 6;
 
-    fn read(file: &[u8], k: usize) -> PendingConsolidation {
+    fn read(rest: &[u8]) -> PendingConsolidation {
+        let [source, target] = numbers_at::<2>(rest);
         PendingConsolidation {
-            source_index: ValidatorIndex(number_at(file, k) as usize),
-            target_index: ValidatorIndex(number_at(file, k + 3) as usize),
+            source_index: ValidatorIndex(source as usize),
+            target_index: ValidatorIndex(target as usize),
         }
     }
 

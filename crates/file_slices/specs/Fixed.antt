@@ -1,5 +1,5 @@
 -- The three promises fix the number, and every number, byte and word that was lent.
-use Rattle.std.specs.Prelude.{◌≡◌, refl, Bool, false, ℕ, ◌≤◌, eqb, drop}
+use Rattle.std.specs.Prelude.{◌≡◌, refl, Bool, false, ℕ, ◌≤◌, eqb, drop, Ok}
 use Rattle.std.proofs.Math.Path.{ap, sym}
 use Rattle.std.proofs.Common.{ap₂, ◌∙◌, arith}
 use Rattle.std.proofs.Math.Bool.{true}
@@ -8,8 +8,10 @@ use Rattle.std.proofs.Math.ListN.{length}
 use borrow.Author.Tests.{leb-true, eqb-true, eqb-false}
 use Rattle.lists.specs.Base.{all}
 use Rattle.lists.specs.Laws.{both}
+use Rattle.primitives.specs.Answers.{answer_or}
 use Rattle.records.specs.Books.{Tables}
 use Rattle.records.specs.Fixed.{SameSizes}
+use Rattle.books_reader.specs.declared.Opened.{Opened}
 use Rattle.books_reader.specs.Read.{BooksRead}
 use Rattle.books_reader.specs.Fixed.{read_fixed}
 use Rattle.runs.specs.Promise.{CarriedOut, carried_out_fixed}
@@ -43,21 +45,24 @@ module _ {bs : List ℕ} {t u w : Tables} {x y y' s r r' : List ℕ} {n m : ℕ}
       let room_s : 13 ≤ length s = leb-true 13 (length s) tests.0 in
       let room_x : 19 ≤ length x = leb-true 19 (length x) (both _ _ tests.1).0 in
       let k : m ≡ 0 = sym same_number ∙ e in
-      let one : BooksRead bs t u record { number = n; settings = settings_in y; scalars = scalars_in r } = record {
-        number = a.number ∙ read_fit_number bs t x s f;
-        books = a.books;
+      let first : Opened = record { settings = settings_in y; scalars = scalars_in r } in
+      let one : BooksRead bs t u (Ok first) = record {
+        number = sym e ∙ a.number ∙ read_fit_number bs t x s f;
+        books = a.books e;
         beyond = a.beyond e;
-        refused = λ q. absurd (q e);
+        refused = tt;
       } in
-      let other : BooksRead bs t w record { number = m; settings = settings_in y'; scalars = scalars_in r' } = record {
-        number = b.number ∙ read_fit_number bs t x s f;
-        books = b.books;
+      let other : BooksRead bs t w (Ok (record { settings = settings_in y'; scalars = scalars_in r' })) = record {
+        number = sym k ∙ b.number ∙ read_fit_number bs t x s f;
+        books = b.books k;
         beyond = b.beyond k;
-        refused = λ q. absurd (q k);
+        refused = tt;
       } in
-      let same = read_fixed z one other in
-      let same_settings : settings_in y ≡ settings_in y' = ap (λ o. o.settings) same.0 in
-      let same_scalars : scalars_in r ≡ scalars_in r' = ap (λ o. o.scalars) same.0 in
+      let same = read_fixed z _ _ one other in
+      let same_opened : ◌≡◌ {A = Opened} first (record { settings = settings_in y'; scalars = scalars_in r' }) =
+      ap (answer_or first) same.0 in
+      let same_settings : settings_in y ≡ settings_in y' = ap (λ o. o.settings) same_opened in
+      let same_scalars : scalars_in r ≡ scalars_in r' = ap (λ o. o.scalars) same_opened in
       let p = a.past e in
       let q = b.past k in (
         same_number,

@@ -1,11 +1,13 @@
 -- What the exported reader of a books file promises.
-use Rattle.std.specs.Prelude.{◌≡◌, refl, Bool, true, false, not, List, [], ◌∷◌, ℕ, leb, length, drop}
+use Rattle.std.specs.Prelude.{◌≡◌, refl, Bool, true, false, not, List, [], ◌∷◌, ℕ, leb, length, drop, Ok, Err}
 use Rattle.std.proofs.Common.{ap, sym, ◌∙◌, arith}
 use Rattle.std.proofs.Math.Option.{Option, some, none}
 use Rattle.lists.specs.Base.{when◌then◌else◌}
 use Rattle.lists.specs.Laws.{if_true, if_false}
 use Rattle.rules.specs.Types as rule
 use Rattle.rules.specs.Calls.{Room}
+use Rattle.primitives.specs.declared.answers.Refusal.{Refusal}
+use Rattle.primitives.specs.Answers.{refusal_number, refusal_not_0}
 use Rattle.records.specs.Books.{Tables, books_of, room_of, Beyond}
 use Rattle.file_format.specs.Words.{words}
 use Rattle.file_format.specs.Books.{books_format}
@@ -94,28 +96,28 @@ module _ (bs : List ℕ) (t : Tables) (x s : List ℕ) where
         refused = λ _. (refl, (refl, refl));
       }
 
-  module _ {f : Bool} (e : f ≡ read_fit x s) (z : not f ≡ false) {u : Tables} {o : Opened}
-      (b : BooksRead bs t u o) where
-    answered : o.number ≡ exported_read_answer x s (room_of t) bs
-    answered = b.number ∙ sym (read_fit_number (fit_true e z))
+  module _ {f : Bool} (e : f ≡ read_fit x s) (z : not f ≡ false) where
+    answered : {n : ℕ} → n ≡ read_answer (room_of t) bs → n ≡ exported_read_answer x s (room_of t) bs
+    answered a = a ∙ sym (read_fit_number (fit_true e z))
 
-    pub read_refused : (o.number ≡ 0 → ⊥) → ExportedRead bs t u x x s s o.number
-    read_refused h = record {
-      number = answered;
-      books = λ q. absurd (h q);
-      beyond = λ q. absurd (h q);
-      past = λ q. absurd (h q);
-      refused = λ _. (refl, (refl, (b.refused h).1));
+    pub read_refused : {u : Tables} {r : Refusal} → BooksRead bs t u (Err r)
+        → ExportedRead bs t u x x s s (refusal_number r)
+    read_refused {r = r} b = record {
+      number = answered b.number;
+      books = λ q. absurd (refusal_not_0 r q);
+      beyond = λ q. absurd (refusal_not_0 r q);
+      past = λ q. absurd (refusal_not_0 r q);
+      refused = λ _. (refl, (refl, b.refused));
     }
 
-    pub read_done : {y r : List ℕ} → o.number ≡ 0 → y ≡ with_settings x o.settings
-        → r ≡ with_scalars s o.scalars → ExportedRead bs t u x y s r o.number
-    read_done h v w =
+    pub read_done : {u : Tables} {o : Opened} {y r : List ℕ} → BooksRead bs t u (Ok o) → y ≡ with_settings x o.settings
+        → r ≡ with_scalars s o.scalars → ExportedRead bs t u x y s r 0
+    read_done b v w =
         rw (v, w)
         (record {
-          number = answered;
-          books = b.books;
+          number = answered b.number;
+          books = λ _. b.books;
           beyond = λ _. b.beyond;
           past = λ _. (refl, refl);
-          refused = λ q. absurd (q h);
+          refused = λ q. absurd (q refl);
         })

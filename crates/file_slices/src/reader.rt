@@ -1,10 +1,14 @@
 // The reader of a books file, for other languages.
+
+// Numbers stay the answers in this file, and the tables stay apart: C takes a number, and lends each table by itself.
+
 ghost use Rattle.std.specs.Prelude.{◌≡◌, [], ◌∷◌, leb, length};
 ghost use Rattle.records.specs.Books.{tables};
 ghost use Rattle.file_format.specs.File.{read_books};
 ghost use Rattle.slices.specs.Exported.{fit};
 ghost use Rattle.file_slices.specs.Read.{unfit_opened, ExportedRead};
 
+use books_file::{BooksFile, books_file_ok};
 use primitives::answers::{self, Refusal};
 
 fn read_fits(settings: &[u64], scalars: &[u64]) -> bool
@@ -17,10 +21,10 @@ fn read_fits(settings: &[u64], scalars: &[u64]) -> bool
 fn unfit_answer(file: &[u8]) -> u8
     ensures { result ≡ unfit_opened (read_books file.now) }
 {
-    if !books_file::books_file_ok(file) {
+    if !books_file_ok(file) {
         return Refusal::BrokenFile.number();
     }
-    slices::unfit_answer(file_records::settings_at(file))
+    slices::unfit_answer(file_records::settings_at(BooksFile { bytes: file }))
 }
 
 pub fn read_books(
@@ -51,12 +55,12 @@ pub fn read_books(
         partials,
         consolidations,
     );
-    if opened.number != answers::DONE {
-        return opened.number;
+    match opened {
+        Ok(opened) => {
+            slices::store_settings(settings, opened.settings);
+            slices::store_scalars(scalars, opened.scalars);
+            answers::DONE
+        }
+        Err(refusal) => refusal.number(),
     }
-    let chain = opened.settings;
-    let numbers = opened.scalars;
-    slices::store_settings(settings, chain);
-    slices::store_scalars(scalars, numbers);
-    opened.number
 }

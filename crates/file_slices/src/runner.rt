@@ -6,6 +6,7 @@ use primitives::answers;
 
 // `count` is how many calls were carried out; the results take three numbers of each: its code, its answer, and the sum
 // that the books hold after it.
+// A number stays the answer, and the tables stay apart: C takes a number, and lends each table by itself.
 pub fn carry_out(
     settings: &[u64],
     scalars: &mut [u64],
@@ -42,11 +43,12 @@ pub fn carry_out(
         file,
         results,
     );
-    if carried.number != answers::DONE {
-        return carried.number;
+    match carried {
+        Ok(carried) => {
+            slices::store_scalars(scalars, carried.scalars);
+            *count = carried.count as u64;
+            answers::DONE
+        }
+        Err(refusal) => refusal.number(),
     }
-    let after = carried.scalars;
-    slices::store_scalars(scalars, after);
-    *count = carried.count as u64;
-    carried.number
 }

@@ -6,6 +6,7 @@ use primitives::answers;
 use records::books::Books;
 
 // `written` is how many bytes the file has.
+// A number stays the answer, and the tables stay apart: C takes a number, and lends each table by itself.
 pub fn write_books(
     settings: &[u64],
     scalars: &[u64],

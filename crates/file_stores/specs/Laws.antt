@@ -1,7 +1,8 @@
 -- The facts that the stores of fields are proved by, and that their callers join them by.
 use Rattle.std.specs.Prelude.{◌≡◌, refl, Bool, true, false, List, [], ◌∷◌, ◌++◌, get_or, take, drop}
 use Rattle.std.proofs.Math.Path.{sym, ap}
-use Rattle.std.proofs.Common.{◌∙◌, append_assoc, append-nil, mul-le-mul_right, add-one, take-append-drop, take_at, drop-drop}
+use Rattle.std.proofs.Common.{◌∙◌, append_assoc, append-nil, mul-le-mul_right, add-one, take-append-drop, take_at}
+use Rattle.std.proofs.Common.{drop-drop}
 use Prim.Native.Nat.{ℕ, zero, suc, ◌+◌, ◌*◌, ◌/◌, ◌%◌, ◌^◌, ◌≤◌, ◌<◌}
 use native.Mathlib.Omega.{arith}
 use Rattle.std.proofs.Math.ListN.{length, length-append}

@@ -1,5 +1,10 @@
 // The fields of a file, written into a lent buffer from word k on. The caller sees to it that they fit.
 
+// A buffer and a word of it stay two parameters. A writer that held both would have to say the same of the whole
+// buffer, whose other words stay as they are, and of its place besides; `&mut out[k * 4..]` would put the product into
+// every call, and each caller would join the part to the whole again. That the words have room stays a clause, as
+// storing into a slice asks for it; a count has 28 bits.
+
 #![tactic(auto)]
 
 ghost use Rattle.std.specs.Prelude.{◌≡◌, [], ◌∷◌, ◌+◌, ◌*◌, ◌/◌, ◌≤◌, ◌<◌, ◌^◌, length, get_or, take};
@@ -121,13 +126,4 @@ pub fn put_end(out: &mut [u8], n: usize)
 {
     let sum = file_words::words_sum(out, n);
     put_word(out, n, 0x8000_0000 + sum % 0x1000_0000);
-}
-
-// ---- a whole file
-
-// What a writer of a file answers: the number of its cause, and how many bytes the file has.
-#[derive(Clone, Copy)]
-pub struct Written {
-    pub number: u8,
-    pub length: usize,
 }

@@ -1,6 +1,9 @@
-// The fields of a file, read where they stand: whether the words from word k on are one, and which. A word behind the
-// end reads as 0, which is of no kind. A loop asks once whether all its words are there, and then stops at none: so the
-// compiler takes several words at a time.
+// The fields of a file, read where they stand: whether the words at the front of lent bytes are one, and which. A word
+// behind the end reads as 0, which is of no kind. A loop asks once whether all its words are there, and then stops at
+// none: so the compiler takes several words at a time.
+
+// A slice and a word stay two parameters of `behind`, `word_within` and `word_at`: as in indexing, what they do is to
+// look at one place of it.
 
 #![tactic(auto)]
 
@@ -8,9 +11,17 @@ ghost use Rattle.std.specs.Prelude.{◌≡◌, ◌+◌, ◌*◌, ◌/◌, ◌%�
 ghost use Rattle.file_format.specs.Words.{words, is_word, wrapping_sum};
 ghost use Rattle.file_format.specs.Fields.{number, flag, field, field_ok, many};
 ghost use Rattle.file_format.specs.File.{ends};
-ghost use Rattle.file_format.specs.Places.{number_at, count_at};
+ghost use Rattle.file_format.specs.Places.{count_at};
 
-// ---- one word
+// ---- words
+
+// The bytes from word k on; none behind the end.
+pub fn behind(file: &[u8], k: usize) -> &[u8]
+    ensures { words result.now ≡ drop k (words file.now) }
+{
+    let whole = file.len() / 4;
+    &file[k.min(whole) * 4..]
+}
 
 // Word k, which is there.
 pub fn word_within(file: &[u8], k: usize) -> u32
@@ -37,77 +48,73 @@ pub fn is_word(kind: u32, limit: u32, w: u32) -> bool
     (w / 0x1000_0000 == kind) & (w % 0x1000_0000 < limit)
 }
 
-// ---- fields, from word k on
+// ---- fields, at the front of what is left of a file
 
-// Three words, which are there.
-fn number_within(file: &[u8], k: usize) -> bool
-    requires { k + 3 ≤ length file.now / 4 }
-    ensures { result ≡ number.ok (drop k (words file.now)) }
+// Three words from word k on, which are there.
+fn number_within(rest: &[u8], k: usize) -> bool
+    requires { k + 3 ≤ length rest.now / 4 }
+    ensures { result ≡ number.ok (drop k (words rest.now)) }
 {
-    let low = word_within(file, k);
-    let middle = word_within(file, k + 1);
-    let top = word_within(file, k + 2);
+    let low = word_within(rest, k);
+    let middle = word_within(rest, k + 1);
+    let top = word_within(rest, k + 2);
     is_word(3, 0x1000_0000, low) & is_word(4, 0x1000_0000, middle) & is_word(5, 256, top)
 }
 
-pub fn number_ok(file: &[u8], k: usize) -> bool
-    requires { k ≤ 2 ^ 40 }
-    ensures { result ≡ number.ok (drop k (words file.now)) }
+pub fn number_ok(rest: &[u8]) -> bool
+    ensures { result ≡ number.ok (words rest.now) }
 {
-    if file.len() / 4 < k + 3 {
+    if rest.len() / 4 < 3 {
         return false;
     }
-    number_within(file, k)
+    number_within(rest, 0)
 }
 
 // n numbers.
-pub fn numbers_ok(file: &[u8], k: usize, n: usize) -> bool
-    requires { k + n * 3 ≤ 2 ^ 40 }
-    ensures { result ≡ (many number n).ok (drop k (words file.now)) }
+pub fn numbers_ok(rest: &[u8], n: usize) -> bool
+    ensures { result ≡ (many number n).ok (words rest.now) }
 {
-    if file.len() / 4 < k + n * 3 {
-        return n == 0;
+    if rest.len() / 12 < n {
+        return false;
     }
     let mut good = true;
     for i in 0..n {
-        good &= number_within(file, k + i * 3);
+        good &= number_within(rest, i * 3);
     }
     good
 }
 
-pub fn flag_ok(file: &[u8], k: usize) -> bool
-    ensures { result ≡ flag.ok (drop k (words file.now)) }
+pub fn flag_ok(rest: &[u8]) -> bool
+    ensures { result ≡ flag.ok (words rest.now) }
 {
-    is_word(7, 2, word_at(file, k))
+    is_word(7, 2, word_at(rest, 0))
 }
 
 // n words of three bytes. A loop beside that of numbers_ok: a shared one over a closure would need longer clauses.
-pub fn triples_ok(file: &[u8], k: usize, n: usize) -> bool
-    requires { k + n ≤ 2 ^ 40 }
-    ensures { result ≡ field_ok (n * 3) (drop k (words file.now)) }
+pub fn triples_ok(rest: &[u8], n: usize) -> bool
+    ensures { result ≡ field_ok (n * 3) (words rest.now) }
 {
-    if file.len() / 4 < k + n {
-        return n == 0;
+    if rest.len() / 4 < n {
+        return false;
     }
     let mut good = true;
     for i in 0..n {
-        good &= is_word(6, 0x100_0000, word_within(file, k + i));
+        good &= is_word(6, 0x100_0000, word_within(rest, i));
     }
     good
 }
 
 // A field of n bytes: n / 3 full words, and one that ends in zero bytes where some bytes are left.
-pub fn field_ok(file: &[u8], k: usize, n: usize) -> bool
-    requires { k + n ≤ 2 ^ 40 }
-    ensures { result ≡ (field n).ok (drop k (words file.now)) }
+pub fn field_ok(rest: &[u8], n: usize) -> bool
+    ensures { result ≡ (field n).ok (words rest.now) }
 {
     let full = n / 3;
-    let front = triples_ok(file, k, full);
+    let front = triples_ok(rest, full);
     let left = n % 3;
     if left == 0 {
         return front;
     }
-    let last = word_at(file, k + full);
+    let last = word_at(rest, full);
     let kind = is_word(6, 0x100_0000, last);
     if left == 1 {
         return front & kind & (last % 65536 == 0);
@@ -126,36 +133,35 @@ fn joined(low: u32, middle: u32, top: u32) -> u64
     low as u64 + middle as u64 * 0x1000_0000 + top as u64 * 0x100_0000_0000_0000
 }
 
-pub fn number_at(file: &[u8], k: usize) -> u64
-    requires k_bound { k ≤ 2 ^ 40 }
-    requires well_formed { number.ok (drop k (words file.now)) ≡ true }
-    ensures { result ≡ number_at (words file.now) k }
+pub fn number_at(rest: &[u8]) -> u64
+    requires { number.ok (words rest.now) ≡ true }
+    ensures { result ≡ number.value (words rest.now) }
 {
-    let low = word_within(file, k);
-    let middle = word_within(file, k + 1);
-    let top = word_within(file, k + 2);
+    let low = word_within(rest, 0);
+    let middle = word_within(rest, 1);
+    let top = word_within(rest, 2);
     joined(low % 0x1000_0000, middle % 0x1000_0000, top % 0x1000_0000)
 }
 
-pub fn flag_at(file: &[u8], k: usize) -> u32
-    ensures { result ≡ flag.value (drop k (words file.now)) }
+pub fn flag_at(rest: &[u8]) -> u32
+    ensures { result ≡ flag.value (words rest.now) }
 {
-    word_at(file, k) % 0x1000_0000
+    word_at(rest, 0) % 0x1000_0000
 }
 
 // ---- counts
 
 // The count, whatever the word's kind.
-pub fn count_at(file: &[u8], p: usize) -> usize
-    ensures { result ≡ count_at (words file.now) p }
+pub fn count_at(rest: &[u8]) -> usize
+    ensures { result ≡ count_at (words rest.now) 0 }
 {
-    (word_at(file, p) % 0x1000_0000) as usize
+    (word_at(rest, 0) % 0x1000_0000) as usize
 }
 
-pub fn count_ok(file: &[u8], p: usize) -> bool
-    ensures { result ≡ is_word 2 (2 ^ 28) (slice_index (words file.now) p) }
+pub fn count_ok(rest: &[u8]) -> bool
+    ensures { result ≡ is_word 2 (2 ^ 28) (slice_index (words rest.now) 0) }
 {
-    is_word(2, 0x1000_0000, word_at(file, p))
+    is_word(2, 0x1000_0000, word_at(rest, 0))
 }
 
 // ---- the end word
@@ -172,13 +178,13 @@ pub fn words_sum(file: &[u8], n: usize) -> u32
     sum
 }
 
-// Whether the end word stands at word e, and nothing after it.
-pub fn end_ok(file: &[u8], e: usize) -> bool
-    requires { e ≤ 2 ^ 40 }
-    ensures { result ≡ ends (words file.now) (drop e (words file.now)) }
+// Whether the rest is the file's end word alone.
+pub fn end_ok(file: &[u8], rest: &[u8]) -> bool
+    ensures { result ≡ ends (words file.now) (words rest.now) }
 {
-    if e + 1 != file.len() / 4 {
+    if rest.len() / 4 != 1 {
         return false;
     }
-    word_at(file, e) == 0x8000_0000 + words_sum(file, e) % 0x1000_0000
+    let before = (file.len() / 4).saturating_sub(1);
+    word_at(rest, 0) == 0x8000_0000 + words_sum(file, before) % 0x1000_0000
 }

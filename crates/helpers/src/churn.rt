@@ -1,12 +1,15 @@
 // The total active balance and the churn limits. Each function walks the registry once.
-ghost use Rattle.std.specs.Prelude.{◌≡◌, true, List, ℕ};
+
+// Registry stays a clause beside scalars and one table: callers write that table, and have the others lent apart.
+
+ghost use Rattle.std.specs.Prelude.{◌≡◌, List, ℕ};
 ghost use Rattle.rules.specs.Helpers.{get_total_active_balance, get_balance_churn_limit};
 ghost use Rattle.rules.specs.Helpers.{get_activation_exit_churn_limit, get_consolidation_churn_limit};
-ghost use Rattle.rules.specs.Acceptance.{sound_settings};
 ghost use Rattle.primitives.specs.Settings.{settings_of};
 ghost use Rattle.records.specs.Books.{tables, books_of};
 ghost use Rattle.helpers.specs.Ready.{Registry};
 
+use primitives::sound::SoundSettings;
 use primitives::{Gwei, Scalars, Settings, ValidatorIndex};
 
 pub fn get_total_active_balance(settings: Settings, scalars: Scalars, validators: &[u64]) -> Gwei
@@ -28,13 +31,13 @@ pub fn get_total_active_balance(settings: Settings, scalars: Scalars, validators
     Gwei(settings.effective_balance_increment.0.max(sum))
 }
 
-pub fn get_balance_churn_limit(settings: Settings, scalars: Scalars, validators: &[u64]) -> Gwei
-    requires settings_are_sound { sound_settings (settings_of settings) ≡ true }
+pub fn get_balance_churn_limit(sound: SoundSettings, scalars: Scalars, validators: &[u64]) -> Gwei
     requires registry { Registry scalars validators.now }
     ensures { (ids ds ps cs : List ℕ)
-        → result.0 ≡ get_balance_churn_limit (settings_of settings)
+        → result.0 ≡ get_balance_churn_limit (settings_of sound.settings)
         (books_of scalars (tables ids validators.now ds ps cs)) }
 {
+    let settings = sound.settings;
     let total = get_total_active_balance(settings, scalars, validators);
     let churn_limit = total.0 / settings.churn_limit_quotient;
     let churn = settings
@@ -45,19 +48,19 @@ pub fn get_balance_churn_limit(settings: Settings, scalars: Scalars, validators:
 }
 
 pub fn get_activation_exit_churn_limit(
-    settings: Settings,
+    sound: SoundSettings,
     scalars: Scalars,
     validators: &[u64],
 ) -> Gwei
-    requires settings_are_sound { sound_settings (settings_of settings) ≡ true }
     requires registry { Registry scalars validators.now }
     ensures { (ids ds ps cs : List ℕ)
-        → result.0 ≡ get_activation_exit_churn_limit (settings_of settings)
+        → result.0 ≡ get_activation_exit_churn_limit (settings_of sound.settings)
         (books_of scalars (tables ids validators.now ds ps cs)) }
 {
-    let churn = get_balance_churn_limit(settings, scalars, validators);
+    let churn = get_balance_churn_limit(sound, scalars, validators);
     Gwei(
-        settings
+        sound
+            .settings
             .max_per_epoch_activation_exit_churn_limit
             .0
             .min(churn.0),
@@ -65,18 +68,18 @@ pub fn get_activation_exit_churn_limit(
 }
 
 pub fn get_consolidation_churn_limit(
-    settings: Settings,
+    sound: SoundSettings,
     scalars: Scalars,
     validators: &[u64],
 ) -> Gwei
-    requires settings_are_sound { sound_settings (settings_of settings) ≡ true }
     requires registry { Registry scalars validators.now }
     ensures { (ids ds ps cs : List ℕ)
-        → result.0 ≡ get_consolidation_churn_limit (settings_of settings)
+        → result.0 ≡ get_consolidation_churn_limit (settings_of sound.settings)
         (books_of scalars (tables ids validators.now ds ps cs)) }
 {
-    let churn = get_balance_churn_limit(settings, scalars, validators);
-    let activation_exit = settings
+    let churn = get_balance_churn_limit(sound, scalars, validators);
+    let activation_exit = sound
+        .settings
         .max_per_epoch_activation_exit_churn_limit
         .0
         .min(churn.0);

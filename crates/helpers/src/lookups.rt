@@ -32,6 +32,7 @@ fn owed_to(i: ValidatorIndex, p: PendingPartialWithdrawal) -> Gwei
     if p.index.0 == i.0 { p.amount } else { Gwei(0) }
 }
 
+// Partials stays a clause: it ties the scalars to a table that callers write.
 #[tactic(auto, using(crate::proofs::Loops::owed_loop), unfolding(records::specs::Books::books_of))]
 pub fn get_pending_balance_to_withdraw(
     scalars: Scalars,

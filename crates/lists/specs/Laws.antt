@@ -1,5 +1,6 @@
 -- Laws of the functions of Base.
-use Rattle.std.specs.Prelude.{◌≡◌, refl, Bool, true, false, not, ◌&&◌, List, [], ◌∷◌, ◌++◌, map, ℕ, zero, suc, ◌+◌, ◌≤◌, ◌<◌, length, get_or, take, drop}
+use Rattle.std.specs.Prelude.{◌≡◌, refl, Bool, true, false, not, ◌&&◌, List, [], ◌∷◌, ◌++◌, map, ℕ, zero, suc, ◌+◌, ◌≤◌}
+use Rattle.std.specs.Prelude.{◌<◌, length, get_or, take, drop}
 use Rattle.std.proofs.Common.{sym, ap, le_of_suc-le-suc, not-suc-le-zero, arith}
 use Rattle.lists.specs.Base.{when◌then◌else◌, all, adjust, total, every}
 

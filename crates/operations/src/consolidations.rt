@@ -9,6 +9,7 @@ use primitives::{Epoch, Scalars, Settings, ValidatorIndex};
 use records::books::Books;
 
 // `valid` says whether the signature is good.
+// The tables stay apart: the call writes some and only reads the others, as C lends them.
 pub fn process_consolidation(
     settings: Settings,
     scalars: Scalars,

@@ -9,6 +9,7 @@ use primitives::{Gwei, Scalars, Settings};
 use records::books::Books;
 
 // `valid` says whether the signature is good.
+// The tables stay apart: the call writes some and only reads the others, as C lends them.
 pub fn process_deposit_receipt(
     settings: Settings,
     scalars: Scalars,

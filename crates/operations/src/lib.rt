@@ -1,4 +1,4 @@
-// The public calls that a block's operations are, one to a file. Each tests what it was handed and answers a number; a
+// The public calls that a block's operations are, one to a file. Each tests what it was handed and answers a Result; a
 // refusal changes nothing that was lent.
 
 #![tactic(auto)]

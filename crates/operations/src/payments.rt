@@ -1,4 +1,8 @@
 // The withdrawals of a block.
+
+// The tables stay apart: a call writes some and only reads the others, as C lends them. A list stays an array and a
+// count: so the exported call hands it, and the count may be above sixteen.
+
 ghost use Rattle.std.specs.Prelude.{◌≡◌};
 ghost use Rattle.rules.specs.Calls.{handed_refusal, withdrawals};
 ghost use Rattle.expected_withdrawals.specs.Expected.{handed_list};
@@ -8,6 +12,7 @@ ghost use Rattle.records.specs.Books.{tables, books_of, room_of, Called};
 
 use expected_withdrawals::Withdrawal;
 use primitives::answers::Refusal;
+use primitives::sound::SoundSettings;
 use primitives::{BOUND, Scalars, Settings};
 use records::books::Books;
 
@@ -49,8 +54,9 @@ pub fn process_withdrawals_accepted(
     if BOUND < next.0 {
         return Err(Refusal::ResultEpochOverBound);
     }
+    let sound = SoundSettings { settings };
     let after = withdrawals::process_withdrawals(
-        settings,
+        sound,
         scalars,
         identities,
         validators,

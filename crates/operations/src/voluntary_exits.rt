@@ -9,6 +9,8 @@ use primitives::{Epoch, Scalars, Settings, ValidatorIndex};
 use records::books::Books;
 
 // `valid` says whether the signature is good.
+// The tables stay apart: the call writes some and only reads the others, as C lends them. The call stays a function of
+// its own: exits and requests are two operations of the text.
 pub fn process_voluntary_exit(
     settings: Settings,
     scalars: Scalars,

@@ -9,6 +9,8 @@ use primitives::{Gwei, Scalars, Settings};
 use records::books::Books;
 
 // An amount of 0 asks for a full exit.
+// The tables stay apart: the call writes some and only reads the others, as C lends them. The call stays a function of
+// its own: exits and requests are two operations of the text.
 pub fn process_execution_layer_withdrawal_request(
     settings: Settings,
     scalars: Scalars,

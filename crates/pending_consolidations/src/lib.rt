@@ -1,5 +1,7 @@
 // process_pending_consolidations: entries are consolidated in order, up to the first whose source is not withdrawable.
 
+// In this file the tables stay apart: a step writes some and only reads the others, as C lends them.
+
 #![tactic(auto)]
 
 pub mod balances; // what the step reads of a validator's balance
@@ -175,5 +177,8 @@ pub fn process_pending_consolidations(
     let after = processed.scalars;
     let left = m - next;
     records::queues::drain::<PendingConsolidation>(consolidations, next, left);
-    after.with_consolidations(left)
+    Scalars {
+        consolidations: left,
+        ..after
+    }
 }

@@ -48,12 +48,6 @@ pub record Crediting (n c : ℕ) (ds old new : List ℕ) (i : ℕ) : Type 0 wher
   pub sums : (ids : List ℕ)
       → validator_balances (rows n (validator_at ids new)) + deposit_amounts (drop i (rows c (deposit_at ds))) ≤ BOUND
 
-pub crediting_none : (n c : ℕ) (ds vs : List ℕ)
-    → ((ids : List ℕ)
-    → validator_balances (rows n (validator_at ids vs)) + deposit_amounts (rows c (deposit_at ds)) ≤ BOUND)
-    → Crediting n c ds vs vs 0
-crediting_none n c ds vs h = record { left = λ ids. refl; past = refl; size = refl; sums = h }
-
 module _ {n c : ℕ} {ds old new : List ℕ} {i : ℕ} (h : Crediting n c ds old new i) where
   pub crediting_end : c ≤ i → Credited n c ds old new
   crediting_end e = record {
@@ -146,9 +140,6 @@ module _ (available m count left : ℕ) (ds : List ℕ)
 
   paid_within : deposit_amounts paid ≤ available
   paid_within = omega (arith, affordable_limit available 0 queue_of (omega arith))
-
-  pub left_within : left ≤ available
-  left_within = omega (arith, is.left)
 
   pub processed : {n : ℕ} {old new : List ℕ} → Credited n count ds old new
       → Processed available n m ds old new (available - left) count

@@ -8,14 +8,15 @@ ghost use Rattle.tables.specs.Rows.{rows};
 ghost use Rattle.rules.specs.Types.{BOUND};
 ghost use Rattle.rules.specs.Helpers.{get_activation_exit_churn_limit};
 ghost use Rattle.rules.specs.EpochProcessing as rule;
-ghost use Rattle.rules.specs.Acceptance.{deposit_amounts, deposit_in, sound_settings, sound_books};
+ghost use Rattle.rules.specs.Acceptance.{deposit_amounts, deposit_in, sound_books};
 ghost use Rattle.rules.specs.Calls.{enough_room};
 ghost use Rattle.primitives.specs.Settings.{settings_of};
 ghost use Rattle.records.specs.Layout.{validator_at, deposit_at, validators_fit, deposits_fit};
 ghost use Rattle.records.specs.Books.{Stepped, books_of, room_of, tables};
 ghost use Rattle.pending_deposits.specs.Deposits.{validator_balances, Credited, Processed};
 
-use primitives::{Gwei, Scalars, Settings};
+use primitives::sound::SoundSettings;
+use primitives::{Gwei, Scalars};
 use records::queues::PendingBalanceDeposit;
 
 // What the deposit loop has processed: the amount, and the position of the first deposit not reached.
@@ -69,8 +70,9 @@ fn process_deposits(
 }
 
 // The allowance is the activation-exit churn limit at the step's start.
+// The tables stay apart: the call writes some and only reads the others, as C lends them.
 pub fn process_pending_balance_deposits(
-    settings: Settings,
+    sound: SoundSettings,
     scalars: Scalars,
     identities: &[u8],
     validators: &mut [u64],
@@ -79,18 +81,17 @@ pub fn process_pending_balance_deposits(
     consolidations: &[u64],
     allowance: Gwei,
 ) -> Scalars
-    requires settings_are_sound { sound_settings (settings_of settings) ≡ true }
-    requires room { enough_room (settings_of settings)
+    requires room { enough_room (settings_of sound.settings)
         (room_of (tables identities.now validators.old deposits.old partials.now consolidations.now))
         ≡ true }
-    requires books_are_sound { sound_books (settings_of settings)
+    requires books_are_sound { sound_books (settings_of sound.settings)
         (books_of scalars
         (tables identities.now validators.old deposits.old partials.now consolidations.now))
         ≡ true }
-    requires allowance_is_limit { allowance.0 ≡ get_activation_exit_churn_limit (settings_of settings)
+    requires allowance_is_limit { allowance.0 ≡ get_activation_exit_churn_limit (settings_of sound.settings)
         (books_of scalars
         (tables identities.now validators.old deposits.old partials.now consolidations.now)) }
-    ensures { Stepped (rule.process_pending_balance_deposits (settings_of settings)) scalars
+    ensures { Stepped (rule.process_pending_balance_deposits (settings_of sound.settings)) scalars
         (tables identities.now validators.old deposits.old
         partials.now consolidations.now)
         (tables identities.now validators.new deposits.new
@@ -103,8 +104,14 @@ pub fn process_pending_balance_deposits(
     let next = processed.next;
     let left = m - next;
     records::queues::drain::<PendingBalanceDeposit>(deposits, next, left);
-    if left == 0 {
-        return scalars.with_deposit_balance_to_consume(Gwei(0), left);
+    let carry = if left == 0 {
+        0
+    } else {
+        available - processed.amount.0
+    };
+    Scalars {
+        deposit_balance_to_consume: Gwei(carry),
+        deposits: left,
+        ..scalars
     }
-    scalars.with_deposit_balance_to_consume(Gwei(available - processed.amount.0), left)
 }

@@ -3,6 +3,7 @@ ghost use Rattle.std.specs.Prelude.{◌≡◌};
 ghost use Rattle.primitives.specs.Answers.{refusal_number, answer_number};
 
 // The number of a call that is done.
+// It stays a number: no Refusal has it, and C and the results of a calls file take it.
 pub const DONE: u8 = 0;
 
 // The causes, each with its number.
@@ -41,6 +42,7 @@ impl Refusal {
 }
 
 // 0 for a value, and the number of its cause for a refusal.
+// The number stays beside the Result: C and the results of a calls file take it.
 pub fn answer_number<T>(answer: &Result<T, Refusal>) -> u8
     ensures { result ≡ answer_number answer.now }
 {

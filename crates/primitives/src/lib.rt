@@ -2,16 +2,13 @@
 
 #![tactic(auto)]
 
-pub mod answers; // the numbers of the answers
+pub mod answers; // the causes of a refusal, with their numbers
+pub mod sound; // settings that passed their tests
 mod numbers; // settings and scalars as rows of numbers
 
 ghost use Rattle.std.specs.Prelude.{◌≡◌};
 ghost use Rattle.rules.specs.Profiles.{mainnet_row};
 ghost use Rattle.primitives.specs.Profiles.{row_settings};
-ghost use Rattle.primitives.specs.Scalars.{with_epoch, with_next_withdrawal, with_receipts_start};
-ghost use Rattle.primitives.specs.Scalars.{with_deposit_balance_to_consume};
-ghost use Rattle.primitives.specs.Scalars.{with_exit_churn, with_consolidation_churn};
-ghost use Rattle.primitives.specs.Scalars.{with_validators, with_deposits, with_partials, with_consolidations};
 
 // An epoch that never comes; also the receipt start that is not set.
 pub const FAR_FUTURE_EPOCH: u64 = 0xffff_ffff_ffff_ffff;
@@ -94,7 +91,8 @@ pub const MAINNET: [u64; 15] = [
 ];
 
 impl Settings {
-    // A row of chain values, with the limits of the registry and of the three queues.
+    // A row of chain values, with the limits of the registry and of the three queues. It stays a function of its own:
+    // `From` would take all five as one tuple.
     pub fn from_row(
         row: [u64; 15],
         registry: usize,
@@ -128,6 +126,7 @@ impl Settings {
     }
 
     // The mainnet row, with four limits.
+    // The four limits stay parameters: `from_row` alone takes them together too.
     pub fn mainnet(
         registry: usize,
         deposits: usize,
@@ -137,99 +136,5 @@ impl Settings {
         ensures { result ≡ row_settings mainnet_row registry deposits partials consolidations }
     {
         Settings::from_row(MAINNET, registry, deposits, partials, consolidations)
-    }
-}
-
-impl Scalars {
-    pub fn with_epoch(self, epoch: Epoch) -> Scalars
-        ensures { result ≡ with_epoch self epoch.0 }
-    {
-        Scalars { epoch, ..self }
-    }
-
-    // What a list of withdrawals changes: the next index, the sweep's cursor, and the count of partials.
-    pub fn with_next_withdrawal(
-        self,
-        index: WithdrawalIndex,
-        cursor: ValidatorIndex,
-        partials: usize,
-    ) -> Scalars
-        ensures { result ≡ with_next_withdrawal self index.0 cursor.0 partials }
-    {
-        Scalars {
-            next_withdrawal_index: index,
-            next_withdrawal_validator_index: cursor,
-            partials,
-            ..self
-        }
-    }
-
-    pub fn with_receipts_start(self, start: u64) -> Scalars
-        ensures { result ≡ with_receipts_start self start }
-    {
-        Scalars {
-            deposit_receipts_start_index: start,
-            ..self
-        }
-    }
-
-    // What the deposit step changes: the carry, and the count of deposits.
-    pub fn with_deposit_balance_to_consume(self, carry: Gwei, deposits: usize) -> Scalars
-        ensures { result ≡ with_deposit_balance_to_consume self carry.0 deposits }
-    {
-        Scalars {
-            deposit_balance_to_consume: carry,
-            deposits,
-            ..self
-        }
-    }
-
-    // The exits' churn account: what is left, and the earliest epoch.
-    pub fn with_exit_churn(self, left: Gwei, earliest: Epoch) -> Scalars
-        ensures { result ≡ with_exit_churn self left.0 earliest.0 }
-    {
-        Scalars {
-            exit_balance_to_consume: left,
-            earliest_exit_epoch: earliest,
-            ..self
-        }
-    }
-
-    // The consolidations' churn account.
-    pub fn with_consolidation_churn(self, left: Gwei, earliest: Epoch) -> Scalars
-        ensures { result ≡ with_consolidation_churn self left.0 earliest.0 }
-    {
-        Scalars {
-            consolidation_balance_to_consume: left,
-            earliest_consolidation_epoch: earliest,
-            ..self
-        }
-    }
-
-    pub fn with_validators(self, validators: usize) -> Scalars
-        ensures { result ≡ with_validators self validators }
-    {
-        Scalars { validators, ..self }
-    }
-
-    pub fn with_deposits(self, deposits: usize) -> Scalars
-        ensures { result ≡ with_deposits self deposits }
-    {
-        Scalars { deposits, ..self }
-    }
-
-    pub fn with_partials(self, partials: usize) -> Scalars
-        ensures { result ≡ with_partials self partials }
-    {
-        Scalars { partials, ..self }
-    }
-
-    pub fn with_consolidations(self, consolidations: usize) -> Scalars
-        ensures { result ≡ with_consolidations self consolidations }
-    {
-        Scalars {
-            consolidations,
-            ..self
-        }
     }
 }

@@ -1,4 +1,4 @@
--- What the two tests require, and that accepted settings and books, in buffers with enough room, have it.
+-- What the two tests require of lent books, and that accepted books, in buffers with enough room, have it.
 use Rattle.std.specs.Prelude.{◌≡◌, true, List, ℕ, ◌+◌, ◌^◌, ◌≤◌}
 use Rattle.std.proofs.Common.{arith}
 use Rattle.lists.specs.Base.{total, every}
@@ -10,32 +10,44 @@ use Rattle.rule_laws.specs.Accepted.{SoundSettings, SoundBooks}
 use Rattle.primitives.specs.declared.Settings.{Settings}
 use Rattle.primitives.specs.declared.Scalars.{Scalars}
 use Rattle.primitives.specs.Settings.{settings_of}
+use Rattle.records.specs.declared.books.Books.{Books}
 use Rattle.records.specs.Layout.{identities_fit, validators_fit, deposits_fit, consolidations_fit}
-use Rattle.records.specs.Books.{Tables, books_of, validators_of, deposits_of, consolidations_of}
+use Rattle.records.specs.Books.{Tables, tables, books_of, validators_of, deposits_of, consolidations_of}
+use Rattle.records.specs.Lent.{lent_tables, plain_books}
 use Rattle.records.specs.Reading.{EnoughRoom, validators_count, deposits_count, consolidations_count}
 
 -- ---- what is required
 
-pub record RegistryReady (s : Scalars) (ids vs : List ℕ) : Type 0 where
-  pub most : s.validators ≤ 65536
-  pub identities : s.validators ≤ identities_fit ids
-  pub validators : s.validators ≤ validators_fit vs
+-- the records of three lent tables
+abbrev pub lent_validators : Books → List rule.Validator
+lent_validators b = validators_of b.scalars b.identities.now b.validators.now
 
-pub record ConsolidationsReady (s : Scalars) (cs : List ℕ) : Type 0 where
-  pub most : s.consolidations ≤ 65536
-  pub fit : s.consolidations ≤ consolidations_fit cs
-  pub inside : every (consolidation_in s.validators) (consolidations_of s cs) ≡ true
+abbrev pub lent_deposits : Books → List rule.PendingBalanceDeposit
+lent_deposits b = deposits_of b.scalars b.deposits.now
 
--- how many deposits wait
-pub record QueueReady (S : Settings) (s : Scalars) : Type 0 where
-  pub limit_most : S.pending_balance_deposits_limit ≤ 65536
-  pub most : s.deposits ≤ S.pending_balance_deposits_limit
+abbrev pub lent_consolidations : Books → List rule.PendingConsolidation
+lent_consolidations b = consolidations_of b.scalars b.consolidations.now
 
-pub record DepositsReady (s : Scalars) (ids vs ds : List ℕ) : Type 0 where
-  pub most : s.deposits ≤ 65536
-  pub fit : s.deposits ≤ deposits_fit ds
-  pub inside : every (deposit_in s.validators) (deposits_of s ds) ≡ true
-  pub held_small : total (λ v. v.balance) (validators_of s ids vs) + deposit_amounts (deposits_of s ds) ≤ BOUND
+-- the books, with other words in two of the tables
+abbrev pub books_with : Books → (deposits partials : List ℕ) → rule.Books
+books_with b ds ps = books_of b.scalars (tables b.identities.now b.validators.now ds ps b.consolidations.now)
+
+-- for the consolidation step; of the deposit queue it is known how many wait
+pub record StepReady (b : Books) : Type 0 where
+  pub most_validators : b.scalars.validators ≤ 65536
+  pub identities : b.scalars.validators ≤ identities_fit b.identities.now
+  pub validators : b.scalars.validators ≤ validators_fit b.validators.now
+  pub most_deposits : b.scalars.deposits ≤ 65536
+  pub most_consolidations : b.scalars.consolidations ≤ 65536
+  pub consolidations : b.scalars.consolidations ≤ consolidations_fit b.consolidations.now
+  pub consolidations_inside : every (consolidation_in b.scalars.validators) (lent_consolidations b) ≡ true
+
+-- for a turn, which credits deposits first
+pub record TurnReady (b : Books) : Type 0 where
+  pub step : StepReady b
+  pub deposits : b.scalars.deposits ≤ deposits_fit b.deposits.now
+  pub deposits_inside : every (deposit_in b.scalars.validators) (lent_deposits b) ≡ true
+  pub held_small : total (λ v. v.balance) (lent_validators b) + deposit_amounts (lent_deposits b) ≤ BOUND
 
 -- carry and allowance together
 pub record AllowanceReady (S : Settings) (s : Scalars) : Type 0 where
@@ -50,52 +62,45 @@ available_small ready b e = omega (arith, ready.carry_small, ready.max_churn, e)
 
 -- ---- accepted settings and books have it
 
-module _ (S : Settings) (s : Scalars) (t : Tables) (σ : SoundSettings (settings_of S))
-    (room : EnoughRoom (settings_of S) t) (β : SoundBooks (settings_of S) (books_of s t)) where
-  pub registry_ready : RegistryReady s t.identities t.validators
-  registry_ready =
-      let n = validators_count s t in
-      let limit = σ.registry_limit.most in
-      record {
-        most = omega (arith, β.registry_fits);
-        identities = omega (arith, β.registry_fits, room.identities);
-        validators = omega (arith, β.registry_fits, room.validators);
-      }
-
-  consolidations_inside :
-      every (consolidation_in (count (books_of s t))) (consolidations_of s t.consolidations) ≡ true
-  unfolding books_of
-  consolidations_inside = β.consolidations_in
-
-  pub consolidations_ready : ConsolidationsReady s t.consolidations
-  consolidations_ready =
-      record {
-        most = omega (arith, β.consolidations_fit, consolidations_count s t, σ.consolidations_limit.most);
-        fit = omega (arith, β.consolidations_fit, consolidations_count s t, room.consolidations);
-        inside = rw (validators_count s t) at consolidations_inside;
-      }
-
-  pub queue_ready : QueueReady S s
-  queue_ready =
-      record {
-        limit_most = σ.deposits_limit.most;
-        most = omega (arith, β.deposits_fit, deposits_count s t);
-      }
-
-  deposits_inside : every (deposit_in (count (books_of s t))) (deposits_of s t.deposits) ≡ true
+module _ (S : rule.Settings) (b : Books) (σ : SoundSettings S) (room : EnoughRoom S (lent_tables b))
+    (β : SoundBooks S (plain_books b)) where
+  deposits_inside : every (deposit_in (count (plain_books b))) (lent_deposits b) ≡ true
   unfolding books_of
   deposits_inside = β.deposits_in
 
-  pub deposits_ready : DepositsReady s t.identities t.validators t.deposits
+  consolidations_inside : every (consolidation_in (count (plain_books b))) (lent_consolidations b) ≡ true
   unfolding books_of
-  deposits_ready =
+  consolidations_inside = β.consolidations_in
+
+  pub step_ready : StepReady b
+  unfolding books_of
+  step_ready =
+      let s = b.scalars in
+      let t = lent_tables b in
       record {
-        most = omega (arith, queue_ready);
-        fit = omega (arith, β.deposits_fit, deposits_count s t, room.deposits);
-        inside = rw (validators_count s t) at deposits_inside;
+        most_validators = omega (arith, β.registry_fits, validators_count s t, σ.registry_limit.most);
+        identities = omega (arith, β.registry_fits, validators_count s t, room.identities);
+        validators = omega (arith, β.registry_fits, validators_count s t, room.validators);
+        most_deposits = omega (arith, β.deposits_fit, deposits_count s t, σ.deposits_limit.most);
+        most_consolidations =
+            omega (arith, β.consolidations_fit, consolidations_count s t, σ.consolidations_limit.most);
+        consolidations = omega (arith, β.consolidations_fit, consolidations_count s t, room.consolidations);
+        consolidations_inside = rw (validators_count s t) at consolidations_inside;
+      }
+
+  pub turn_ready : TurnReady b
+  unfolding books_of
+  turn_ready =
+      let s = b.scalars in
+      let t = lent_tables b in
+      record {
+        step = step_ready;
+        deposits = omega (arith, β.deposits_fit, deposits_count s t, room.deposits);
+        deposits_inside = rw (validators_count s t) at deposits_inside;
         held_small = β.held_small;
       }
 
-  pub allowance_ready : AllowanceReady S s
-  unfolding books_of
-  allowance_ready = record { carry_small = β.carry_small; max_churn = σ.max_churn }
+pub allowance_ready : (S : Settings) (s : Scalars) (t : Tables) → SoundSettings (settings_of S)
+    → SoundBooks (settings_of S) (books_of s t) → AllowanceReady S s
+unfolding books_of
+allowance_ready S s t σ β = record { carry_small = β.carry_small; max_churn = σ.max_churn }

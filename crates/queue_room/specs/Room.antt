@@ -199,7 +199,7 @@ module _ (S : Settings) (s : Scalars) (t : Tables) where
       )
 
   -- an entry of every consolidation would fit
-  module _ (limit : ℕ) (h : s.deposits ≤ limit) (k : s.consolidations ≤ limit - s.deposits) where
+  module _ (limit : ℕ) (h : s.deposits + s.consolidations ≤ limit) where
     pub fits_uncounted : true ≡ leb (queued (process_pending_consolidations S b)) limit
     fits_uncounted =
         sym (le-leb (queued (process_pending_consolidations S b)) limit

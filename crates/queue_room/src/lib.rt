@@ -1,6 +1,9 @@
 // Answer 40 of the consolidation step and of a turn, before the first store: whether the deposit queue is within its
 // limit afterwards. The step is carried out on a copy of the balances that a switch can still take an excess from.
 
+// StepReady and TurnReady stay clauses: as types, what a turn lends would have to be turned into what the step asks
+// for, within each function that calls another.
+
 #![tactic(auto)]
 
 ghost use Rattle.std.specs.Prelude.{◌≡◌, List, ℕ, ◌+◌, ◌<◌, ◌≤◌, ◌^◌, length, get_or, leb};
@@ -9,17 +12,17 @@ ghost use Rattle.rules.specs.Helpers.{prefix, get_activation_exit_churn_limit};
 ghost use Rattle.rules.specs.EpochProcessing.{process_pending_consolidations, turn};
 ghost use Rattle.rules.specs.Counting.{excess_entries};
 ghost use Rattle.primitives.specs.Settings.{settings_of};
-ghost use Rattle.records.specs.Layout.{withdrawal_credentials_at, identities_fit, validators_fit};
-ghost use Rattle.records.specs.Books.{tables, books_of, validators_of, deposits_of, consolidations_of};
+ghost use Rattle.records.specs.Layout.{withdrawal_credentials_at, identities_fit};
 ghost use Rattle.compounding.specs.Laws.{excess_entry_count};
 ghost use Rattle.queue_room.specs.Balances.{Switchable, switchable_amount};
 ghost use Rattle.queue_room.specs.Balances.{credited_balances, consolidated_balances};
 ghost use Rattle.queue_room.specs.Represented.{Represented, DepositsProcessed};
 ghost use Rattle.queue_room.specs.Room.{queued, available_amount};
-ghost use Rattle.queue_room.specs.Ready.{RegistryReady, ConsolidationsReady, QueueReady, DepositsReady};
-ghost use Rattle.queue_room.specs.Ready.{AllowanceReady};
+ghost use Rattle.queue_room.specs.Ready.{lent_validators, lent_deposits, lent_consolidations, books_with};
+ghost use Rattle.queue_room.specs.Ready.{StepReady, TurnReady, AllowanceReady};
 
-use primitives::{Gwei, Scalars, Settings, ValidatorIndex};
+use primitives::{Gwei, Settings, ValidatorIndex};
+use records::books::Books;
 use records::queues::{PendingBalanceDeposit, PendingConsolidation};
 
 // ---- one balance
@@ -34,21 +37,14 @@ fn switchable_amount(prefix: u8, amount: Gwei) -> u64
 // ---- the balances of the validators that can switch, and 0 for the others
 
 #[tactic(auto, using(crate::proofs::Filling::filling_none, crate::proofs::Filling::filling_end))]
-fn set_switchable_balances(
-    scalars: Scalars,
-    identities: &[u8],
-    validators: &[u64],
-    balances: &mut [u64; 65536],
-)
-    requires registry_ready { RegistryReady scalars identities.now validators.now }
-    requires balances_len { length balances.old ≡ 65536 }
+fn set_switchable_balances(books: &Books<'_>, balances: &mut [u64; 65536])
+    requires ready { StepReady books.now }
     ensures { (length balances.new ≡ 65536)
-        × Switchable scalars.validators
-        (validators_of scalars identities.now validators.now) balances.new }
+        × Switchable books.now.scalars.validators (lent_validators books.now) balances.new }
 {
-    for i in 0..scalars.validators {
-        let prefix = records::registry::prefix_at(identities, ValidatorIndex(i));
-        let balance = records::registry::balance_at(validators, ValidatorIndex(i));
+    for i in 0..books.scalars.validators {
+        let prefix = records::registry::prefix_at(books.identities, ValidatorIndex(i));
+        let balance = records::registry::balance_at(books.validators, ValidatorIndex(i));
         balances[i] = switchable_amount(prefix, balance);
     }
 }
@@ -67,33 +63,24 @@ fn credit_deposit(identities: &[u8], d: PendingBalanceDeposit, balances: &mut [u
 
 // The balances after the deposit loop; the result is how many deposits it credits.
 #[tactic(auto, using(crate::proofs::Crediting::crediting_loop))]
-fn process_deposits(
-    scalars: Scalars,
-    identities: &[u8],
-    validators: &[u64],
-    deposits: &[u64],
-    available: Gwei,
-    balances: &mut [u64; 65536],
-) -> usize
-    requires registry_ready { RegistryReady scalars identities.now validators.now }
-    requires deposits_ready { DepositsReady scalars identities.now validators.now deposits.now }
-    requires balances_len { length balances.old ≡ 65536 }
+fn process_deposits(books: &Books<'_>, available: Gwei, balances: &mut [u64; 65536]) -> usize
+    requires ready { TurnReady books.now }
     ensures { (length balances.new ≡ 65536)
-        × DepositsProcessed available.0 scalars.validators (deposits_of scalars deposits.now)
-        (validators_of scalars identities.now validators.now) balances.new result }
+        × DepositsProcessed available.0 books.now.scalars.validators (lent_deposits books.now)
+        (lent_validators books.now) balances.new result }
 {
-    set_switchable_balances(scalars, identities, validators, balances);
+    set_switchable_balances(books, balances);
     let mut processed_amount = 0;
-    for k in 0..scalars.deposits {
-        let d: PendingBalanceDeposit = records::queues::entry_at(deposits, k);
+    for k in 0..books.scalars.deposits {
+        let d: PendingBalanceDeposit = records::queues::entry_at(books.deposits, k);
         let amount = d.amount.0;
         if available.0 < processed_amount + amount {
             return k;
         }
-        credit_deposit(identities, d, balances);
+        credit_deposit(books.identities, d, balances);
         processed_amount += amount;
     }
-    scalars.deposits
+    books.scalars.deposits
 }
 
 // The target switches, then the source's active balance goes; the result is how many entries the switch queues.
@@ -113,32 +100,23 @@ fn consolidate(minimum: Gwei, c: PendingConsolidation, balances: &mut [u64; 6553
 
 // How many entries the switches of the consolidation step queue, on any books that words and balances represent.
 #[tactic(auto, using(crate::proofs::Counting::counting_loop))]
-fn count_excess_entries(
-    settings: Settings,
-    scalars: Scalars,
-    validators: &[u64],
-    consolidations: &[u64],
-    balances: &mut [u64; 65536],
-) -> usize
-    requires validators_bound { (scalars.validators ≤ 65536) × (scalars.validators ≤ validators_fit validators.now) }
-    requires consolidations_ready { ConsolidationsReady scalars consolidations.now }
-    requires balances_len { length balances.old ≡ 65536 }
-    ensures { (result ≤ scalars.consolidations)
-        × ((b : rule.Books) → Represented scalars validators.now balances.old b
-        → result ≡ length (excess_entries (settings_of settings)
-        (consolidations_of scalars consolidations.now) b)) }
+fn count_excess_entries(settings: Settings, books: &Books<'_>, balances: &mut [u64; 65536]) -> usize
+    requires ready { StepReady books.now }
+    ensures { (result ≤ books.now.scalars.consolidations)
+        × ((b : rule.Books) → Represented books.now.scalars books.now.validators.now balances.old b
+        → result ≡ length (excess_entries (settings_of settings) (lent_consolidations books.now) b)) }
 {
     let mut entries = 0;
-    for k in 0..scalars.consolidations {
-        let c: PendingConsolidation = records::queues::entry_at(consolidations, k);
-        if records::registry::slashed_at(validators, c.source_index) == 1 {
+    for k in 0..books.scalars.consolidations {
+        let c: PendingConsolidation = records::queues::entry_at(books.consolidations, k);
+        if records::registry::slashed_at(books.validators, c.source_index) == 1 {
             continue;
         }
         let withdrawable_epoch = records::registry::withdrawable_epoch_at(
-            validators,
+            books.validators,
             c.source_index,
         );
-        if scalars.epoch.0 < withdrawable_epoch.0 {
+        if books.scalars.epoch.0 < withdrawable_epoch.0 {
             return entries;
         }
         entries += consolidate(settings.min_activation_balance, c, balances);
@@ -148,138 +126,65 @@ fn count_excess_entries(
 
 // ---- the queue's length afterwards; each of the two owns the one array of balances on its call chain
 
-fn queue_after_consolidations(
-    settings: Settings,
-    scalars: Scalars,
-    identities: &[u8],
-    validators: &[u64],
-    consolidations: &[u64],
-) -> usize
-    requires registry_ready { RegistryReady scalars identities.now validators.now }
-    requires consolidations_ready { ConsolidationsReady scalars consolidations.now }
-    requires queue_ready { QueueReady settings scalars }
+fn queue_after_consolidations(settings: Settings, books: &Books<'_>) -> usize
+    requires { StepReady books.now }
     ensures { (ds ps : List ℕ)
-        → result ≡ queued (process_pending_consolidations (settings_of settings)
-        (books_of scalars
-        (tables identities.now validators.now ds ps consolidations.now))) }
+        → result ≡ queued (process_pending_consolidations (settings_of settings) (books_with books.now ds ps)) }
 {
     let mut balances = [0u64; 65536];
-    set_switchable_balances(scalars, identities, validators, &mut balances);
-    let entries = count_excess_entries(
-        settings,
-        scalars,
-        validators,
-        consolidations,
-        &mut balances,
-    );
-    scalars.deposits + entries
+    set_switchable_balances(books, &mut balances);
+    let entries = count_excess_entries(settings, books, &mut balances);
+    books.scalars.deposits + entries
 }
 
-fn queue_after_turn(
-    settings: Settings,
-    scalars: Scalars,
-    identities: &[u8],
-    validators: &[u64],
-    deposits: &[u64],
-    consolidations: &[u64],
-    available: Gwei,
-) -> usize
-    requires registry_ready { RegistryReady scalars identities.now validators.now }
-    requires consolidations_ready { ConsolidationsReady scalars consolidations.now }
-    requires deposits_ready { DepositsReady scalars identities.now validators.now deposits.now }
+fn queue_after_turn(settings: Settings, books: &Books<'_>, available: Gwei) -> usize
+    requires { TurnReady books.now }
     ensures { (ps : List ℕ)
-        → available.0 ≡ available_amount (settings_of settings)
-        (books_of scalars
-        (tables identities.now validators.now deposits.now ps
-        consolidations.now))
-        → result ≡ queued (turn (settings_of settings)
-        (books_of scalars
-        (tables identities.now validators.now deposits.now ps
-        consolidations.now))) }
+        → let b = books_with books.now books.now.deposits.now ps in
+        available.0 ≡ available_amount (settings_of settings) b → result ≡ queued (turn (settings_of settings) b) }
 {
     let mut balances = [0u64; 65536];
-    let credited = process_deposits(
-        scalars,
-        identities,
-        validators,
-        deposits,
-        available,
-        &mut balances,
-    );
-    let entries = count_excess_entries(
-        settings,
-        scalars,
-        validators,
-        consolidations,
-        &mut balances,
-    );
-    scalars.deposits - credited + entries
+    let credited = process_deposits(books, available, &mut balances);
+    let entries = count_excess_entries(settings, books, &mut balances);
+    books.scalars.deposits - credited + entries
 }
 
 // ---- the two tests; a queue that has room for an entry of every consolidation needs no count
 
 // Whether the deposit queue is within its limit after the consolidation step.
-pub fn consolidations_fit(
-    settings: Settings,
-    scalars: Scalars,
-    identities: &[u8],
-    validators: &[u64],
-    consolidations: &[u64],
-) -> bool
-    requires registry_ready { RegistryReady scalars identities.now validators.now }
-    requires consolidations_ready { ConsolidationsReady scalars consolidations.now }
-    requires queue_ready { QueueReady settings scalars }
+pub fn consolidations_fit(settings: Settings, books: &Books<'_>) -> bool
+    requires { StepReady books.now }
     ensures { (ds ps : List ℕ)
-        → result ≡ leb (queued (process_pending_consolidations (settings_of settings)
-        (books_of scalars
-        (tables identities.now validators.now ds ps consolidations.now))))
+        → result
+        ≡ leb (queued (process_pending_consolidations (settings_of settings) (books_with books.now ds ps)))
         (settings_of settings).pending_balance_deposits_limit }
 {
     let limit = settings.pending_balance_deposits_limit;
-    if scalars.consolidations <= limit - scalars.deposits {
+    let most = books.scalars.deposits + books.scalars.consolidations;
+    if most <= limit {
         return true;
     }
-    queue_after_consolidations(settings, scalars, identities, validators, consolidations) <= limit
+    queue_after_consolidations(settings, books) <= limit
 }
 
 // Whether the deposit queue is within its limit after a turn.
-pub fn turn_fits(
-    settings: Settings,
-    scalars: Scalars,
-    identities: &[u8],
-    validators: &[u64],
-    deposits: &[u64],
-    consolidations: &[u64],
-    allowance: Gwei,
-) -> bool
-    requires registry_ready { RegistryReady scalars identities.now validators.now }
-    requires consolidations_ready { ConsolidationsReady scalars consolidations.now }
-    requires queue_ready { QueueReady settings scalars }
-    requires deposits_ready { DepositsReady scalars identities.now validators.now deposits.now }
-    requires allowance_ready { AllowanceReady settings scalars }
+pub fn turn_fits(settings: Settings, books: &Books<'_>, allowance: Gwei) -> bool
+    requires ready { TurnReady books.now }
+    requires allowance_ready { AllowanceReady settings books.now.scalars }
     requires allowance_is { (ps : List ℕ)
-        → allowance.0 ≡ get_activation_exit_churn_limit (settings_of settings)
-        (books_of scalars (tables identities.now validators.now deposits.now ps consolidations.now)) }
+        → allowance.0
+        ≡ get_activation_exit_churn_limit (settings_of settings) (books_with books.now books.now.deposits.now ps) }
     ensures { (ps : List ℕ)
-        → result ≡ leb (queued (turn (settings_of settings)
-        (books_of scalars
-        (tables identities.now validators.now deposits.now ps
-        consolidations.now))))
+        → result
+        ≡ leb (queued (turn (settings_of settings) (books_with books.now books.now.deposits.now ps)))
         (settings_of settings).pending_balance_deposits_limit }
 {
     let limit = settings.pending_balance_deposits_limit;
-    if scalars.consolidations <= limit - scalars.deposits {
+    let most = books.scalars.deposits + books.scalars.consolidations;
+    if most <= limit {
         return true;
     }
-    let available = Gwei(scalars.deposit_balance_to_consume.0 + allowance.0);
-    let queue = queue_after_turn(
-        settings,
-        scalars,
-        identities,
-        validators,
-        deposits,
-        consolidations,
-        available,
-    );
+    let available = Gwei(books.scalars.deposit_balance_to_consume.0 + allowance.0);
+    let queue = queue_after_turn(settings, books, available);
     queue <= limit
 }

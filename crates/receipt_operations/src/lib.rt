@@ -1,5 +1,8 @@
 // Deposit receipts. A bad signature is no refusal: an unknown key is not added, a known key is not switched.
 
+// ReceiptReady stays a clause, and what `sums` says too: they tie the scalars to tables that a receipt writes, which
+// stay apart as C lends them.
+
 #![tactic(auto)]
 
 ghost use Rattle.std.specs.Prelude.{◌≡◌, true, List, ℕ, ◌+◌, ◌<◌, leb};
@@ -32,7 +35,10 @@ fn start_receipts(scalars: Scalars, index: u64) -> Scalars
     if scalars.deposit_receipts_start_index != FAR_FUTURE_EPOCH {
         return scalars;
     }
-    scalars.with_receipts_start(index)
+    Scalars {
+        deposit_receipts_start_index: index,
+        ..scalars
+    }
 }
 
 // ---- a known key
@@ -89,7 +95,10 @@ fn deposit_to_known(
     let within = n + 1 + more <= settings.pending_balance_deposits_limit;
     call_answers::size_number(within, sums, true)?;
     records::queues::push(deposits, n, PendingBalanceDeposit { index: i, amount });
-    let queued = scalars.with_deposits(n + 1);
+    let queued = Scalars {
+        deposits: n + 1,
+        ..scalars
+    };
     if !switch {
         return Ok(queued);
     }
@@ -158,9 +167,11 @@ fn add_validator_to_registry(
             amount,
         },
     );
-    let added = scalars.with_validators(n + 1);
-    let queued = added.with_deposits(m + 1);
-    Ok(queued)
+    Ok(Scalars {
+        validators: n + 1,
+        deposits: m + 1,
+        ..scalars
+    })
 }
 
 // ---- the call
@@ -216,6 +227,7 @@ fn apply_deposit(
 }
 
 // `sums` says whether the result's sums are within the bound.
+// The tables stay apart: the call writes some and only reads the others, as C lends them.
 pub fn process_deposit_receipt(
     settings: Settings,
     scalars: Scalars,

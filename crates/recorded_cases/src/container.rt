@@ -8,6 +8,7 @@ use std::io;
 use std::io::Read;
 
 // Why no case was read.
+// It stays an enum of its own: an error, of which one case keeps the cause that std gives.
 #[derive(Debug, Drop)]
 pub enum Fault {
     Broken,

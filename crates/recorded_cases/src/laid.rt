@@ -1,10 +1,9 @@
 // Books of a file laid into lent tables as they are, sound or not: for what no reader accepts. What a table has no room
 // for is left out.
+ghost use Rattle.std.specs.Prelude.{◌<◌, ◌≤◌};
+
 use crate::books::{Books, Lent, Tables};
 use primitives::{Epoch, Gwei, Scalars, Settings, ValidatorIndex, WithdrawalIndex};
-use records::queues::{
-    PendingBalanceDeposit, PendingConsolidation, PendingPartialWithdrawal, entries_fit, push,
-};
 use records::registry::{identities_fit, push_validator, validators_fit};
 use records::validator::Validator;
 
@@ -95,29 +94,7 @@ impl Fields<'_> {
         }
     }
 
-    fn deposit(&mut self) -> PendingBalanceDeposit {
-        PendingBalanceDeposit {
-            index: self.index(),
-            amount: Gwei(self.number()),
-        }
-    }
-
-    fn partial(&mut self) -> PendingPartialWithdrawal {
-        PendingPartialWithdrawal {
-            index: self.index(),
-            amount: Gwei(self.number()),
-            withdrawable_epoch: Epoch(self.number()),
-        }
-    }
-
-    fn consolidation(&mut self) -> PendingConsolidation {
-        PendingConsolidation {
-            source_index: self.index(),
-            target_index: self.index(),
-        }
-    }
-
-    // The counted validators, and how many they are; so too the queues.
+    // The counted validators, and how many they are.
     fn validators(&mut self, identities: &mut [u8], validators: &mut [u64]) -> usize {
         let n = self.count();
         for i in 0..n {
@@ -129,34 +106,20 @@ impl Fields<'_> {
         n
     }
 
-    fn deposits(&mut self, deposits: &mut [u64]) -> usize {
+    // The counted records of a queue, which has W words a record as the file has W numbers, and how many they are.
+    fn queue<const W: usize>(&mut self, table: &mut [u64]) -> usize
+        requires { (0 < W) × (W ≤ 3) }
+    {
         let n = self.count();
-        for i in 0..n {
-            let deposit = self.deposit();
-            if i < entries_fit::<PendingBalanceDeposit>(deposits) {
-                push(deposits, i, deposit);
+        let (records, _) = table.as_chunks_mut::<W>();
+        let mut records = records.iter_mut();
+        for _ in 0..n {
+            let mut record = [0; W];
+            for word in &mut record {
+                *word = self.number();
             }
-        }
-        n
-    }
-
-    fn partials(&mut self, partials: &mut [u64]) -> usize {
-        let n = self.count();
-        for i in 0..n {
-            let partial = self.partial();
-            if i < entries_fit::<PendingPartialWithdrawal>(partials) {
-                push(partials, i, partial);
-            }
-        }
-        n
-    }
-
-    fn consolidations(&mut self, consolidations: &mut [u64]) -> usize {
-        let n = self.count();
-        for i in 0..n {
-            let consolidation = self.consolidation();
-            if i < entries_fit::<PendingConsolidation>(consolidations) {
-                push(consolidations, i, consolidation);
+            if let Some(words) = records.next() {
+                *words = record;
             }
         }
         n
@@ -177,9 +140,9 @@ pub fn lay(file: &[u8], mut tables: Tables) -> Books {
         consolidations,
     } = tables.lend();
     scalars.validators = fields.validators(identities, validators);
-    scalars.deposits = fields.deposits(deposits);
-    scalars.partials = fields.partials(partials);
-    scalars.consolidations = fields.consolidations(consolidations);
+    scalars.deposits = fields.queue::<2>(deposits);
+    scalars.partials = fields.queue::<3>(partials);
+    scalars.consolidations = fields.queue::<2>(consolidations);
     Books {
         settings,
         scalars,

@@ -1,6 +1,8 @@
 -- Copies of bytes.
-use Rattle.std.specs.Prelude.{◌≡◌, refl, Bool, true, false, List, ◌++◌, ℕ, ◌+◌, ◌-◌, ◌≤◌, ◌<◌, ltb, length, get_or, take, drop}
-use Rattle.std.proofs.Common.{ap, sym, ◌∙◌, append_assoc, arith, get_or-take, get_or-drop, length-take-le, take_at, drop_at, ltb-true, ltb-false}
+use Rattle.std.specs.Prelude.{◌≡◌, refl, Bool, true, false, List, ◌++◌, ℕ, ◌+◌, ◌-◌, ◌≤◌, ◌<◌, ltb, length, get_or}
+use Rattle.std.specs.Prelude.{take, drop}
+use Rattle.std.proofs.Common.{ap, sym, ◌∙◌, append_assoc, arith, get_or-take, get_or-drop, length-take-le, take_at}
+use Rattle.std.proofs.Common.{drop_at, ltb-true, ltb-false}
 use Rattle.std.proofs.Math.Seq.{paste}
 use Rattle.std.proofs.lemmas.List.Edits.{length-paste, drop-paste}
 use Rattle.tables.specs.Words.{Outside}

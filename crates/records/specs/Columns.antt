@@ -1,6 +1,8 @@
 -- Stores into a table that is laid out by columns of c words.
-use Rattle.std.specs.Prelude.{◌≡◌, refl, ◌≢◌, Bool, true, false, List, ℕ, ◌+◌, ◌-◌, ◌*◌, ◌≤◌, ◌<◌, eqb, ltb, length, get_or, set, take, drop}
-use Rattle.std.proofs.Common.{ap, ◌∙◌, arith, length-take, length-drop, get_or-set_same, get_or-set_other, drop-set-lt, eqb-true, ltb-true, ltb-false}
+use Rattle.std.specs.Prelude.{◌≡◌, refl, ◌≢◌, Bool, true, false, List, ℕ, ◌+◌, ◌-◌, ◌*◌, ◌≤◌, ◌<◌, eqb, ltb, length}
+use Rattle.std.specs.Prelude.{get_or, set, take, drop}
+use Rattle.std.proofs.Common.{ap, ◌∙◌, arith, length-take, length-drop, get_or-set_same, get_or-set_other, drop-set-lt}
+use Rattle.std.proofs.Common.{eqb-true, ltb-true, ltb-false}
 use Rattle.std.proofs.lemmas.List.{drop-set-add}
 use Rattle.std.proofs.Math.Seq.{take-set-lt}
 use Rattle.std.proofs.lemmas.Bool.{eqb-false}

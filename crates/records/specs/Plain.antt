@@ -2,7 +2,8 @@
 use Rattle.std.specs.Prelude.{List, [], ◌∷◌, ℕ}
 use Rattle.rules.specs.Types as rule
 use Rattle.records.specs.declared.registry.Column.{Column}
-use Rattle.records.specs.declared.registry.Column.TheVariants.{Slashed, EffectiveBalance, ActivationEligibilityEpoch, ActivationEpoch, ExitEpoch, WithdrawableEpoch, Balance}
+use Rattle.records.specs.declared.registry.Column.TheVariants.{Slashed, EffectiveBalance, ActivationEligibilityEpoch}
+use Rattle.records.specs.declared.registry.Column.TheVariants.{ActivationEpoch, ExitEpoch, WithdrawableEpoch, Balance}
 use Rattle.records.specs.declared.validator.Validator.{Validator}
 use Rattle.records.specs.declared.queues.PendingBalanceDeposit.{PendingBalanceDeposit}
 use Rattle.records.specs.declared.queues.PendingPartialWithdrawal.{PendingPartialWithdrawal}

@@ -1,6 +1,7 @@
 -- What stores into the identities and the validators' words do to the validators.
 use Rattle.std.specs.Prelude.{◌≡◌, refl, ◌≢◌, length, set, take}
-use Rattle.std.proofs.Common.{ap, sym, ◌∙◌, arith, length-take, length-drop, take_all, drop-drop, get_or-take, ext_get_or}
+use Rattle.std.proofs.Common.{ap, sym, ◌∙◌, arith, length-take, length-drop, take_all, drop-drop, get_or-take}
+use Rattle.std.proofs.Common.{ext_get_or}
 use mathlib.Core.List.{List, [], ◌∷◌, ◌++◌}
 use Prim.Native.Nat.{ℕ, ◌+◌, ◌-◌, ◌*◌, ◌/◌, ◌<◌, ◌≤◌}
 use Rattle.std.proofs.Math.ListN.{get_or, drop, length-set}

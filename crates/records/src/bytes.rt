@@ -1,4 +1,7 @@
-// Copies and comparisons of fixed bytes.
+// Copies of fixed bytes.
+
+// A slice and a place stay two parameters: as in indexing, what the functions do is to look at one place of it.
+
 ghost use Rattle.std.specs.Prelude.{◌≡◌, ◌+◌, ◌≤◌, length, take, drop};
 ghost use Rattle.std.proofs.Math.Seq.{paste};
 

@@ -2,7 +2,7 @@
 
 #![tactic(auto)]
 
-pub mod bytes; // copies and comparisons of fixed bytes
+pub mod bytes; // copies of fixed bytes
 pub mod validator; // the validator record and its tests
 pub mod registry; // the identities and the validators' words
 pub mod queues; // deposits, partial withdrawals, consolidations

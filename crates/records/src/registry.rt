@@ -1,5 +1,9 @@
 // The registry's two tables, laid out by columns: the keys and then the credentials of as many validators as fit, 48
 // and 32 bytes each; and seven columns of words.
+
+// The bound on i stays a clause of each function: it is the one that indexing a slice asks for, and an Option would
+// give every caller, all of which loop below the count, have tested the index or have it from accepted records, a case that cannot be.
+
 ghost use Rattle.std.specs.Prelude.{◌≡◌, List, ℕ, ◌+◌, ◌*◌, ◌<◌, ◌^◌, length};
 ghost use Rattle.lists.specs.Base.{same_bytes};
 ghost use Rattle.rules.specs.Update.{with_balance, with_effective_balance, with_exit};

@@ -1,7 +1,6 @@
 // What is compared on the closing books.
-use crate::opened::Refused;
 use crate::printed::refusal;
-use primitives::answers;
+use primitives::answers::{Refusal, answer_number};
 use recorded_cases::books::{Books, Output};
 use recorded_cases::compare::Replay;
 use recorded_cases::container::{Case, Flag, Section};
@@ -9,10 +8,8 @@ use replayed_parts::{expected, unchanged};
 use std::io;
 
 // How many bytes the books have in the buffer.
-fn write(books: &Books, buffer: &mut [u8]) -> Result<usize, Refused> {
-    books_writer::write_books(books.settings, &books.see(), buffer).map_err(|refusal| Refused(
-        refusal.number(),
-    ))
+fn write(books: &Books, buffer: &mut [u8]) -> Result<usize, Refusal> {
+    books_writer::write_books(books.settings, &books.see(), buffer)
 }
 
 fn is_refused(books: &Books) -> bool {
@@ -32,7 +29,7 @@ fn closing<P: Print>(
             let length = n.min(out.len());
             replay.check("closing books", recorded, &out[..length])
         }
-        Err(refused) => refusal(replay, refused, recorded, out),
+        Err(cause) => refusal(replay, cause.number(), recorded, out),
     }
 }
 
@@ -47,11 +44,8 @@ fn closing_short<P: Print>(
         return Ok(());
     }
     let room = (recorded.len() - 1).min(out.len());
-    let refused = match write(books, &mut out[..room]) {
-        Ok(_) => Refused(answers::DONE),
-        Err(refused) => refused,
-    };
-    refusal(replay, refused, b"refused 61\n", out)
+    let answer = write(books, &mut out[..room]);
+    refusal(replay, answer_number(&answer), b"refused 61\n", out)
 }
 
 // What is compared on the closing books, and the list that is expected on them; of books that were lent and refused,

@@ -28,6 +28,6 @@ pub fn replay<P: Print>(
             printed::table(replay, case, results, count, out)?;
             closing::afterwards(replay, case, &books, out)
         }
-        Err(refused) => printed::refused(replay, case, refused, out),
+        Err(cause) => printed::refused(replay, case, cause, out),
     }
 }

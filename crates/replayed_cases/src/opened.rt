@@ -1,22 +1,11 @@
 // The opening of a case and its calls, in the tables that it lends.
-use primitives::answers::{self, Refusal};
+use primitives::answers::Refusal;
 use recorded_cases::books::{Books, Lent, Results, Tables};
 use recorded_cases::container::{Case, Flag, Section};
 use recorded_cases::laid;
-use single_calls::Broken;
-
-// The number of a refusal in place of the table.
-#[derive(Clone, Copy, Debug, PartialEq, Eq)]
-pub struct Refused(pub u8);
-
-impl From<Broken> for Refused {
-    fn from(_: Broken) -> Refused {
-        Refused(Refusal::BrokenFile.number())
-    }
-}
 
 // The opening read.
-fn read(opening: &[u8], mut tables: Tables) -> Result<Books, Refused> {
+fn read(opening: &[u8], mut tables: Tables) -> Result<Books, Refusal> {
     let Lent {
         identities,
         validators,
@@ -31,10 +20,7 @@ fn read(opening: &[u8], mut tables: Tables) -> Result<Books, Refused> {
         deposits,
         partials,
         consolidations,
-    );
-    if opened.number != answers::DONE {
-        return Err(Refused(opened.number));
-    }
+    )?;
     Ok(Books {
         settings: opened.settings,
         scalars: opened.scalars,
@@ -43,7 +29,7 @@ fn read(opening: &[u8], mut tables: Tables) -> Result<Books, Refused> {
 }
 
 // The opening read; where it is lent as it is, laid into the tables without a test.
-fn open(case: &Case) -> Result<Books, Refused> {
+fn open(case: &Case) -> Result<Books, Refusal> {
     let opening = case.payload(Section::Opening);
     let tables = Tables::new(case.room);
     if case.has(Flag::Lent) {
@@ -53,7 +39,7 @@ fn open(case: &Case) -> Result<Books, Refused> {
 }
 
 // The calls of the file as one list; how many they are.
-fn carry_out(books: &mut Books, calls: &[u8], results: &mut Results) -> Result<usize, Refused> {
+fn carry_out(books: &mut Books, calls: &[u8], results: &mut Results) -> Result<usize, Refusal> {
     let settings = books.settings;
     let scalars = books.scalars;
     let Lent {
@@ -73,21 +59,18 @@ fn carry_out(books: &mut Books, calls: &[u8], results: &mut Results) -> Result<u
         consolidations,
         calls,
         results,
-    );
-    if carried.number != answers::DONE {
-        return Err(Refused(carried.number));
-    }
+    )?;
     books.scalars = carried.scalars;
     Ok(carried.count)
 }
 
 // The books that the calls leave, and how many calls they were; where steps alone are among them, they are carried out
 // one by one.
-pub fn answered(case: &Case, results: &mut Results) -> Result<(Books, usize), Refused> {
+pub fn answered(case: &Case, results: &mut Results) -> Result<(Books, usize), Refusal> {
     let calls = case.payload(Section::Calls);
     let mut books = open(case)?;
     let count = if case.has(Flag::StepsAlone) {
-        single_calls::carry_out(&mut books, calls, results)?
+        single_calls::carry_out(&mut books, calls, results).map_err(|_| Refusal::BrokenFile)?
     } else {
         carry_out(&mut books, calls, results)?
     };

@@ -1,5 +1,5 @@
 // What `books` prints: a refusal, or the table.
-use crate::opened::Refused;
+use primitives::answers::Refusal;
 use recorded_cases::books::{Output, Results};
 use recorded_cases::compare::{Counts, Replay};
 use recorded_cases::container::{Case, Section};
@@ -7,11 +7,11 @@ use std::io;
 
 pub fn refusal<P: Print>(
     replay: &mut Replay<P>,
-    refused: Refused,
+    number: u8,
     recorded: &[u8],
     out: &mut Output,
 ) -> io::Result<()> {
-    let put = table_text::put_refused(out, refused.0);
+    let put = table_text::put_refused(out, number);
     let length = put.min(out.len());
     replay.check("refusal", recorded, &out[..length])
 }
@@ -20,10 +20,10 @@ pub fn refusal<P: Print>(
 pub fn refused<P: Print>(
     replay: &mut Replay<P>,
     case: &Case,
-    refused: Refused,
+    cause: Refusal,
     out: &mut Output,
 ) -> io::Result<()> {
-    refusal(replay, refused, case.payload(Section::Printed), out)
+    refusal(replay, cause.number(), case.payload(Section::Printed), out)
 }
 
 // The table of the answers.

@@ -8,6 +8,8 @@ ghost use Rattle.records.specs.Books.{tables, books_of, room_of, Called};
 use primitives::answers::Refusal;
 use primitives::{Gwei, Scalars, Settings, ValidatorIndex};
 
+// The tables stay apart, and their test a clause over them: the call writes some and only reads the others, as C lends
+// them.
 pub fn penalty_accepted(
     settings: Settings,
     scalars: Scalars,

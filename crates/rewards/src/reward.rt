@@ -11,6 +11,8 @@ use primitives::answers::Refusal;
 use primitives::{Gwei, Scalars, Settings, ValidatorIndex};
 
 // On books that the tests accepted. `sums` says whether the result's sums are within the bound.
+// The tables stay apart, and their test a clause over them: the call writes some and only reads the others, as C lends
+// them.
 pub fn reward_accepted(
     settings: Settings,
     scalars: Scalars,

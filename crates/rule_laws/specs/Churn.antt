@@ -1,5 +1,6 @@
 -- Bounds of the churn limits and of the epoch assignment: no divisor is 0, and what is left is small.
-use Rattle.std.specs.Prelude.{◌≡◌, refl, true, List, [], ◌∷◌, ℕ, zero, suc, ◌+◌, ◌-◌, ◌*◌, ◌/◌, ◌%◌, ◌^◌, ◌≤◌, ◌<◌, max, length, leb, ltb}
+use Rattle.std.specs.Prelude.{◌≡◌, refl, true, List, [], ◌∷◌, ℕ, zero, suc, ◌+◌, ◌-◌, ◌*◌, ◌/◌, ◌%◌, ◌^◌, ◌≤◌, ◌<◌, max}
+use Rattle.std.specs.Prelude.{length, leb, ltb}
 use Rattle.std.proofs.Common.{div-mul-le_self, div-le_self, mod-lt, div-add-mod', arith, ltb-true, leb-true}
 use Rattle.lists.specs.Base.{when◌then◌else◌, total, every}
 use Rattle.lists.specs.Laws.{by_test, both}

@@ -1,5 +1,6 @@
 -- The deposit loop as what it credits and what it leaves waiting.
-use Rattle.std.specs.Prelude.{◌≡◌, refl, Bool, true, false, List, [], ◌∷◌, ◌++◌, ℕ, ◌+◌, ◌-◌, ◌≤◌, ◌<◌, length, drop, ltb}
+use Rattle.std.specs.Prelude.{◌≡◌, refl, Bool, true, false, List, [], ◌∷◌, ◌++◌, ℕ, ◌+◌, ◌-◌, ◌≤◌, ◌<◌, length, drop}
+use Rattle.std.specs.Prelude.{ltb}
 use Rattle.std.proofs.Common.{ap, ◌∙◌, zero-add, arith, ltb-true, ltb-false}
 use Rattle.lists.specs.Base.{when◌then◌else◌, adjust, total, every, empty}
 use Rattle.lists.specs.Laws.{by_test, both, join, length_adjust, total_adjust, every_adjust}

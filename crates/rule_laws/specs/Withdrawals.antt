@@ -1,5 +1,6 @@
 -- The expected list: at most a payload long, of validators that are there.
-use Rattle.std.specs.Prelude.{◌≡◌, refl, Bool, true, List, [], ◌∷◌, ℕ, zero, suc, ◌+◌, ◌-◌, ◌%◌, ◌≤◌, ◌<◌, min, length, ltb}
+use Rattle.std.specs.Prelude.{◌≡◌, refl, Bool, true, List, [], ◌∷◌, ℕ, zero, suc, ◌+◌, ◌-◌, ◌%◌, ◌≤◌, ◌<◌, min, length}
+use Rattle.std.specs.Prelude.{ltb}
 use Rattle.std.proofs.Common.{◌∙◌, mod-lt, arith, length-append, lt-ltb}
 use Rattle.lists.specs.Base.{adjust, every}
 use Rattle.lists.specs.Laws.{by_test, both, join, every_append, every_adjust, length_adjust}

@@ -1,7 +1,8 @@
 -- The marked edges of the scope text, on the definitions, as one list and one theorem; then edges of our own: the
 -- carry, the order of the deposit queue, the seven places where the Electra text decides, the sweep, partial requests,
 -- and the receipts' start.
-use Rattle.std.specs.Prelude.{◌≡◌, refl, Bool, true, false, ◌&&◌, List, [], ◌∷◌, ◌++◌, map, ℕ, ◌+◌, ◌-◌, ◌*◌, length, get_or, replicate, eqb}
+use Rattle.std.specs.Prelude.{◌≡◌, refl, Bool, true, false, ◌&&◌, List, [], ◌∷◌, ◌++◌, map, ℕ, ◌+◌, ◌-◌, ◌*◌, length}
+use Rattle.std.specs.Prelude.{get_or, replicate, eqb}
 use Rattle.lists.specs.Base.{all, same_bytes}
 use Rattle.rules.specs.Types.{FAR, Settings, Validator, Withdrawal, Books}
 use Rattle.rules.specs.Update.{with_exit, with_next_withdrawal, with_deposit_balance_to_consume}

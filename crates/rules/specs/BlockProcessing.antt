@@ -1,6 +1,7 @@
 -- The rules of electra/block_processing.rs. A rule that can refuse has its tests beside it, in the Rust's order: the
 -- number of the first that fails, or 0.
-use Rattle.std.specs.Prelude.{Bool, true, false, not, ◌&&◌, List, [], ◌∷◌, ◌++◌, ℕ, zero, suc, ◌+◌, ◌-◌, ◌%◌, min, length, drop, leb, ltb, eqb}
+use Rattle.std.specs.Prelude.{Bool, true, false, not, ◌&&◌, List, [], ◌∷◌, ◌++◌, ℕ, zero, suc, ◌+◌, ◌-◌, ◌%◌, min}
+use Rattle.std.specs.Prelude.{length, drop, leb, ltb, eqb}
 use Rattle.lists.specs.Base.{when◌then◌else◌, adjust, empty, last, same_bytes}
 use Rattle.rules.specs.Types.{FAR, Settings, Validator, Books}
 use Rattle.rules.specs.Types.{PendingPartialWithdrawal, PendingConsolidation, Withdrawal}

@@ -1,7 +1,8 @@
 -- The rules of capella/helpers.rs and electra/helpers.rs, on whole numbers: nothing overflows, and every function is
 -- total. They stand in the order of the Rust but where one needs another. S is the settings, b the books, v a
 -- validator, i the index of one.
-use Rattle.std.specs.Prelude.{Bool, ◌&&◌, ◌||◌, List, [], ◌∷◌, ◌++◌, ℕ, suc, ◌+◌, ◌-◌, ◌*◌, ◌/◌, ◌%◌, min, max, length, get_or, drop, set, leb, ltb, eqb}
+use Rattle.std.specs.Prelude.{Bool, ◌&&◌, ◌||◌, List, [], ◌∷◌, ◌++◌, ℕ, suc, ◌+◌, ◌-◌, ◌*◌, ◌/◌, ◌%◌, min, max, length}
+use Rattle.std.specs.Prelude.{get_or, drop, set, leb, ltb, eqb}
 use Rattle.lists.specs.Base.{when◌then◌else◌, adjust, total, same_bytes}
 use Rattle.rules.specs.Types.{FAR, Settings, Validator, PendingBalanceDeposit, PendingPartialWithdrawal, Books}
 use Rattle.rules.specs.Update.{with_withdrawal_credentials, with_exit, with_balance}

@@ -2,6 +2,7 @@ pub mod Lines
 pub mod InPlace
 pub mod Sums
 pub mod Promise
+pub mod Left
 pub mod Ready
 pub mod Steps
 pub mod Judged

@@ -3,7 +3,6 @@ use Rattle.std.specs.Prelude.{◌≡◌, refl, true, List, [], ◌∷◌, ◌++�
 use Rattle.std.specs.Prelude.{take, drop, set}
 use Rattle.std.proofs.Common.{sym, ap, ◌∙◌, append_assoc, append-nil, arith, length-set, take-append-drop}
 use Rattle.std.proofs.Common.{drop-drop, drop-set-lt, take-suc-set}
-use Rattle.std.proofs.Math.Nat.{sub-zero}
 use Rattle.std.proofs.lemmas.List.{length-map}
 use Rattle.rules.specs.Types as rule
 use Rattle.rules.specs.Acceptance.{held}
@@ -14,15 +13,14 @@ use Rattle.records.specs.Books.{Tables, books_of, room_of, call_on, Called}
 use Rattle.records.specs.Fixed.{SameSizes}
 use Rattle.acceptance.specs.Handed.{accepted, none_refused, facts}
 use Rattle.acceptance.specs.Held.{HeldReady, held_ready}
-use Rattle.file_format.specs.Words.{words}
 use Rattle.file_format.specs.Fields.{many}
 use Rattle.file_format.specs.Calls.{written, call}
-use Rattle.calls_reader.specs.Calls.{call_i_good, calls_good_behind, calls_left_behind, no_calls_left, near}
+use Rattle.calls_reader.specs.Calls.{call_i_good, calls_good_behind, calls_left_behind, no_calls_left}
 use Rattle.table_text.specs.Lines.{lines_words}
 use Rattle.runs.specs.Lines.{lines, with_line, lines_length, lines_words_length}
-use Rattle.runs.specs.InPlace.{InPlace, none, next, calls_on, sizes_none, sizes_then, same_room}
-use Rattle.file_calls.specs.Ready.{Accepted, CallAt, operation_at}
-use Rattle.runs.specs.Ready.{CallsAt, operations_at, Written}
+use Rattle.runs.specs.InPlace.{InPlace, none, next, calls_on, sizes_then, same_room}
+use Rattle.file_calls.specs.Ready.{Accepted}
+use Rattle.runs.specs.Ready.{CallsThere, operations_there, Written}
 use Rattle.runs.specs.Promise.{Done}
 
 -- ---- accepted books stay accepted in the same buffers
@@ -98,17 +96,6 @@ pub record Running (S : rule.Settings) (s₀ : Scalars) (t₀ : Tables) (os : Li
   pub past : drop (3 * i) results ≡ drop (3 * i) before
   pub long : length results ≡ length before
 
-pub running_none : {S : rule.Settings} {s : Scalars} {t : Tables} (os : List Operation) (before : List ℕ)
-    → Accepted S s t → Running S s t os before s t os before 0
-running_none {S} {s} {t} os before h = record {
-  chain = λ r u c. c;
-  sizes = sizes_none t;
-  accepted = h;
-  lines = refl;
-  past = refl;
-  long = refl;
-}
-
 module _ {S : rule.Settings} {s₀ : Scalars} {t₀ : Tables} {os : List Operation} {before : List ℕ} {s : Scalars}
     {t : Tables} {results : List ℕ} {i : ℕ} where
   pub running_more : {op : Operation} {left : List Operation} {u : Tables} {new : List ℕ} {r : Scalars}
@@ -178,59 +165,37 @@ module _ {S : rule.Settings} {s₀ : Scalars} {t₀ : Tables} {os : List Operati
         length-map os (call_on t₀),
       )
 
--- ---- the loop over the n calls of a file: i are carried out, and the next one begins at word k
+-- ---- the loop over n calls, which the words us begin with: i are carried out, and vs are left
 
 pub many_size : (n : ℕ) (us : List ℕ) → length ((many call n).value us) ≡ n
 unfolding many
 many_size zero us = refl
 many_size (suc n) us = ap suc (many_size n (call.rest us))
 
-pub record Carrying (S : rule.Settings) (s₀ : Scalars) (t₀ : Tables) (file : List ℕ) (n : ℕ) (before : List ℕ)
-    (s : Scalars) (t : Tables) (k i : ℕ) (results : List ℕ) : Type 0 where
-  pub running :
-      Running S s₀ t₀ (operations_at file n) before s t ((many call (n - i)).value (drop k (words file))) results i
-  pub good : (many call (n - i)).ok (drop k (words file)) ≡ true
-  pub near : k ≤ 2 + i * 258
+pub record Carrying (S : rule.Settings) (s₀ : Scalars) (t₀ : Tables) (us : List ℕ) (n : ℕ) (before : List ℕ)
+    (s : Scalars) (t : Tables) (vs : List ℕ) (i : ℕ) (results : List ℕ) : Type 0 where
+  pub running : Running S s₀ t₀ (operations_there us n) before s t (operations_there vs (n - i)) results i
+  pub good : CallsThere vs (n - i)
   pub most : i ≤ n
 
-pub carrying_none : {S : rule.Settings} {s : Scalars} {t : Tables} {file before : List ℕ} {n : ℕ} → Accepted S s t
-    → CallsAt file n → Carrying S s t file n before s t 2 0 before
-carrying_none {S} {s} {t} {file} {before} {n} h c = record {
-  running = rw sub-zero (running_none (operations_at file n) before h);
-  good = rw sub-zero c.good;
-  near = omega arith;
-  most = omega arith;
-}
+module _ {S : rule.Settings} {s₀ : Scalars} {t₀ : Tables} {us : List ℕ} {n : ℕ} {before : List ℕ} {s : Scalars}
+    {t : Tables} {vs : List ℕ} {i : ℕ} {results : List ℕ} (inv : Carrying S s₀ t₀ us n before s t vs i results) where
+  pub carrying_call : i < n → call.ok vs ≡ true
+  carrying_call l = call_i_good vs n i l inv.good
 
-module _ {S : rule.Settings} {s₀ : Scalars} {t₀ : Tables} {file : List ℕ} {n : ℕ} {before : List ℕ} {s : Scalars}
-    {t : Tables} {k i : ℕ} {results : List ℕ} (inv : Carrying S s₀ t₀ file n before s t k i results) where
-  pub carrying_call : n ≤ 9_999 → i < n → CallAt file k
-  carrying_call m l = record {
-    near = omega (arith, inv.near);
-    good = call_i_good (words file) n i k l inv.good;
+  pub carrying_more : {u : Tables} {new : List ℕ} {r : Scalars} {behind : List ℕ} → i < n → 3 * n ≤ length before
+      → Written S (call.value vs) s t u results new i r → SameSizes u t → behind ≡ call.rest vs
+      → Carrying S s₀ t₀ us n before r u behind (i + 1) new
+  carrying_more {behind = behind} l h w z e = record {
+    running =
+        running_more (rw (calls_left_behind vs n i l behind e) at inv.running) w z (omega (arith, inv.running.long));
+    good = calls_good_behind vs n i l behind e inv.good;
+    most = omega arith;
   }
 
-  pub carrying_room : i < n → 3 * n ≤ length before → 3 * i + 3 ≤ length results
-  carrying_room l h = omega (arith, inv.running.long)
-
-  pub carrying_more : {u : Tables} {new : List ℕ} {r : Scalars} {behind : ℕ} → i < n → 3 * n ≤ length before
-      → Written S (operation_at file k) s t u results new i r → SameSizes u t
-      → drop behind (words file) ≡ call.rest (drop k (words file)) → behind ≤ length (words file)
-      → Carrying S s₀ t₀ file n before r u behind (i + 1) new
-  carrying_more {behind = behind} l h w z e b =
-      let ws = words file in
-      let g = call_i_good ws n i k l inv.good in
-      record {
-        running = running_more (rw (calls_left_behind ws n i k l behind e) at inv.running) w z
-            (carrying_room l h);
-        good = calls_good_behind ws n i k l behind e inv.good;
-        near = omega (arith, near ws k behind g e b, inv.near);
-        most = omega arith;
-      }
-
-  pub carrying_end : n ≤ i → 3 * n ≤ length before → Done S s₀ t₀ t (operations_at file n) before results s n
+  pub carrying_end : n ≤ i → 3 * n ≤ length before → Done S s₀ t₀ t (operations_there us n) before results s n
   carrying_end l h =
       let e : i ≡ n = omega (arith, inv.most) in
-      let size : i ≡ length (operations_at file n) = e ∙ sym (many_size n (drop 2 (words file))) in
-      let d = running_end (rw (no_calls_left (drop k (words file)) n i l) at inv.running) size (omega arith) in
+      let size : i ≡ length (operations_there us n) = e ∙ sym (many_size n us) in
+      let d = running_end (rw (no_calls_left vs n i l) at inv.running) size (omega arith) in
       rw e at d

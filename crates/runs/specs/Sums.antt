@@ -1,5 +1,5 @@
 -- What the books hold after a call, from what they held before it: demand 3 of one call says what it took in and out.
-use Rattle.std.specs.Prelude.{◌≡◌, Bool, List, [], ◌∷◌, ℕ, zero, suc, ◌+◌, ◌-◌, ◌≤◌, ◌<◌, min, length, drop, ltb, eqb}
+use Rattle.std.specs.Prelude.{◌≡◌, Bool, List, [], ◌∷◌, ℕ, ◌+◌, ◌-◌, ◌≤◌, ◌<◌, min, length, drop, ltb, eqb}
 use Rattle.std.proofs.Math.Path.{refl, sym, ap}
 use Rattle.std.proofs.Common.{◌∙◌, append-nil, length-append, eq-eqb, ne_eqb, eqb-true}
 use Rattle.std.proofs.Math.Bool.{true, false}
@@ -21,11 +21,12 @@ use Rattle.records.specs.Books.{Tables, books_of, call_on, Called}
 use Rattle.records.specs.Layout.{balance_at}
 use Rattle.records.specs.Reading.{validators_count, deposits_count, validator_read}
 use Rattle.acceptance.specs.Held.{balances_in, amounts_in, held_form}
-use Rattle.file_format.specs.Words.{words}
-use Rattle.file_format.proofs.FieldsLaws.{impossible}
-use Rattle.file_format.specs.Calls.{call_format}
-use Rattle.calls_reader.specs.Widths.{code_at, call_value_at, fields_good}
-use Rattle.file_calls.specs.Ready.{CallAt, operation_at}
+use Rattle.file_format.specs.Calls.{call, call_format}
+use Rattle.calls_reader.specs.Widths.{code_of}
+use Rattle.calls_reader.specs.Plain.{kind_code}
+use Rattle.calls_reader.specs.declared.Kind.{Kind}
+use Rattle.calls_reader.specs.declared.Kind.TheVariants as kind
+use Rattle.file_calls.specs.Laws.{of_code}
 
 -- ---- definitions
 
@@ -208,26 +209,18 @@ module _ {S : Settings} {op : Operation} {s r : Scalars} {t u : Tables} {n : ℕ
       (balances_in r.validators u.validators + amounts_in r.deposits u.deposits)
   followed_in c p h q = rw (q, ← held_form r u) (followed c p h)
 
--- ---- the sum after the call of a file, by its code
-
-module _ (op : Operation) (n sum taken waiting left anew : ℕ) where
-  pub sum_refused : (n ≡ 0 → ⊥) → sum ≡ sum_after op n sum taken waiting left anew
-  unfolding sum_after
-  sum_refused z = sym (if_false _ _ _ (ne_eqb n 0 z))
-
-  -- the same operation, given in another way
-  pub sum_as : (o : Operation) → o ≡ op → n ≡ 0 → {x : ℕ} → x ≡ done_sum o sum taken waiting left anew
-      → x ≡ sum_after op n sum taken waiting left anew
-  unfolding sum_after
-  sum_as o e z {x} q =
-      q ∙ ap (λ i. done_sum i sum taken waiting left anew) e ∙ sym (if_true _ _ _ (eq-eqb n 0 z))
+-- ---- the sum after the call of a file, by its kind
 
 module _ {op : Operation} {n sum taken waiting left anew : ℕ} (f : Followed op n sum taken waiting left anew) where
   pub refused_after : (n ≡ 0 → ⊥) → sum ≡ anew
-  refused_after z = sum_refused op n sum taken waiting left anew z ∙ f.after
+  unfolding sum_after
+  refused_after z = sym (if_false _ _ _ (ne_eqb n 0 z)) ∙ f.after
 
+  -- `o` is the same operation, given in another way
   pub as_after : (o : Operation) → o ≡ op → n ≡ 0 → done_sum o sum taken waiting left anew ≡ anew
-  as_after o e z = sum_as op n sum taken waiting left anew o e z refl ∙ f.after
+  unfolding sum_after
+  as_after o e z =
+      ap (λ i. done_sum i sum taken waiting left anew) e ∙ sym (if_true _ _ _ (eq-eqb n 0 z)) ∙ f.after
 
   -- a receipt
   module _ {public_key withdrawal_credentials : List ℕ} {amount index : ℕ} {valid : Bool}
@@ -239,59 +232,40 @@ module _ {op : Operation} {n sum taken waiting left anew : ℕ} (f : Followed op
     some_queued q = sym (if_false _ _ _ (ne_eqb left waiting q)) ∙ as_after _ e z
 
 -- a call that is no reward, penalty, receipt or list of withdrawals moves nothing
-steady_sum : (c : ℕ) (us : List ℕ) → (call_format c).ok us ≡ true → (c ≡ 1 → ⊥) → (c ≡ 2 → ⊥) → (c ≡ 3 → ⊥)
-    → (c ≡ 8 → ⊥) → (sum taken waiting left anew : ℕ)
-    → sum ≡ done_sum ((call_format c).value us) sum taken waiting left anew
-steady_sum zero us e a b c d sum taken waiting left anew = impossible e
-steady_sum (suc zero) us e a b c d sum taken waiting left anew = absurd (a refl)
-steady_sum (suc (suc zero)) us e a b c d sum taken waiting left anew = absurd (b refl)
-steady_sum (suc (suc (suc zero))) us e a b c d sum taken waiting left anew = absurd (c refl)
-steady_sum (suc (suc (suc (suc zero)))) us e a b c d sum taken waiting left anew = refl
-steady_sum (suc (suc (suc (suc (suc zero))))) us e a b c d sum taken waiting left anew = refl
-steady_sum (suc (suc (suc (suc (suc (suc zero)))))) us e a b c d sum taken waiting left anew = refl
-steady_sum (suc (suc (suc (suc (suc (suc (suc zero))))))) us e a b c d sum taken waiting left anew = refl
-steady_sum (suc (suc (suc (suc (suc (suc (suc (suc zero)))))))) us e a b c d sum taken waiting left anew =
-    absurd (d refl)
-steady_sum (suc (suc (suc (suc (suc (suc (suc (suc (suc k))))))))) us e a b c d sum taken waiting left anew =
-    impossible e
+steady_sum : (k : Kind) (us : List ℕ) → (k ≡ kind.Reward → ⊥) → (k ≡ kind.Penalty → ⊥)
+    → (k ≡ kind.DepositReceipt → ⊥) → (k ≡ kind.Withdrawals → ⊥) → (sum taken waiting left anew : ℕ)
+    → sum ≡ done_sum ((call_format (kind_code k)).value us) sum taken waiting left anew
+steady_sum kind.Reward us a b c d sum taken waiting left anew = absurd (a refl)
+steady_sum kind.Penalty us a b c d sum taken waiting left anew = absurd (b refl)
+steady_sum kind.DepositReceipt us a b c d sum taken waiting left anew = absurd (c refl)
+steady_sum kind.VoluntaryExit us a b c d sum taken waiting left anew = refl
+steady_sum kind.WithdrawalRequest us a b c d sum taken waiting left anew = refl
+steady_sum kind.Consolidation us a b c d sum taken waiting left anew = refl
+steady_sum kind.Turn us a b c d sum taken waiting left anew = refl
+steady_sum kind.Withdrawals us a b c d sum taken waiting left anew = absurd (d refl)
 
-no_penalty : (c : ℕ) (us : List ℕ) → (call_format c).ok us ≡ true → (c ≡ 2 → ⊥) → (b : Books)
-    → 0 ≡ penalty_taken ((call_format c).value us) b
-no_penalty zero us e a b = impossible e
-no_penalty (suc zero) us e a b = refl
-no_penalty (suc (suc zero)) us e a b = absurd (a refl)
-no_penalty (suc (suc (suc zero))) us e a b = refl
-no_penalty (suc (suc (suc (suc zero)))) us e a b = refl
-no_penalty (suc (suc (suc (suc (suc zero))))) us e a b = refl
-no_penalty (suc (suc (suc (suc (suc (suc zero)))))) us e a b = refl
-no_penalty (suc (suc (suc (suc (suc (suc (suc zero))))))) us e a b = refl
-no_penalty (suc (suc (suc (suc (suc (suc (suc (suc zero)))))))) us e a b = refl
-no_penalty (suc (suc (suc (suc (suc (suc (suc (suc (suc k))))))))) us e a b = impossible e
+no_penalty : (k : Kind) (us : List ℕ) → (k ≡ kind.Penalty → ⊥) → (b : Books)
+    → 0 ≡ penalty_taken ((call_format (kind_code k)).value us) b
+no_penalty kind.Reward us a b = refl
+no_penalty kind.Penalty us a b = absurd (a refl)
+no_penalty kind.DepositReceipt us a b = refl
+no_penalty kind.VoluntaryExit us a b = refl
+no_penalty kind.WithdrawalRequest us a b = refl
+no_penalty kind.Consolidation us a b = refl
+no_penalty kind.Turn us a b = refl
+no_penalty kind.Withdrawals us a b = refl
 
-module _ {file : List ℕ} {k : ℕ} (c : CallAt file k) where
-  abbrev fields : List ℕ
-  fields = drop (k + 1) (words file)
+-- us are the words of a call, from its code on
+module _ (us : List ℕ) {k : Kind} (e : kind_code k ≡ code_of us) where
+  pub steady_after : (k ≡ kind.Reward → ⊥) → (k ≡ kind.Penalty → ⊥) → (k ≡ kind.DepositReceipt → ⊥)
+      → (k ≡ kind.Withdrawals → ⊥) → {n sum taken waiting left anew : ℕ}
+      → Followed (call.value us) n sum taken waiting left anew → n ≡ 0 → sum ≡ anew
+  steady_after a b c d {n} {sum} {taken} {waiting} {left} {anew} f z =
+      steady_sum k (drop 1 us) a b c d sum taken waiting left anew ∙ as_after f _ (of_code us (kind_code k) (sym e)) z
 
-  good : (call_format (code_at (words file) k)).ok fields ≡ true
-  good = fields_good (words file) k c.good
-
-  -- the operation of a code
-  pub of_code : (m : ℕ) → code_at (words file) k ≡ m → (call_format m).value fields ≡ operation_at file k
-  of_code m e = sym (call_value_at (words file) k ∙ ap (λ n. (call_format n).value fields) e)
-
-  pub steady_after : (code_at (words file) k ≡ 1 → ⊥) → (code_at (words file) k ≡ 2 → ⊥)
-      → (code_at (words file) k ≡ 3 → ⊥) → (code_at (words file) k ≡ 8 → ⊥)
-      → (n sum taken waiting left anew : ℕ) → n ≡ 0
-      → sum ≡ sum_after (operation_at file k) n sum taken waiting left anew
-  steady_after h₁ h₂ h₃ h₈ n sum taken waiting left anew z =
-      sum_as (operation_at file k) n sum taken waiting left anew
-      ((call_format (code_at (words file) k)).value fields) (of_code (code_at (words file) k) refl) z
-      (steady_sum (code_at (words file) k) fields good h₁ h₂ h₃ h₈ sum taken waiting left anew)
-
-  pub other_taken : (code_at (words file) k ≡ 2 → ⊥) → (b : Books) → 0 ≡ penalty_taken (operation_at file k) b
+  pub other_taken : (k ≡ kind.Penalty → ⊥) → (b : Books) → 0 ≡ penalty_taken (call.value us) b
   other_taken h b =
-      no_penalty (code_at (words file) k) fields good h b
-      ∙ ap (λ o. penalty_taken o b) (of_code (code_at (words file) k) refl)
+      no_penalty k (drop 1 us) h b ∙ ap (λ o. penalty_taken o b) (of_code us (kind_code k) (sym e))
 
 -- ---- what a penalty takes, from the tables
 

@@ -1,28 +1,32 @@
 // The calls of a file, carried out on lent books that are tested once.
 
+// The tables stay apart in this file, and what is known of them stays a clause: a run writes all five, as C lends them.
+
 #![tactic(auto)]
 
 pub mod lines; // one call with its line in the results
 pub mod sums; // the sum that the books hold, carried from call to call
 
-ghost use Rattle.std.specs.Prelude.{◌*◌, ◌≤◌, length, MatchResult};
-ghost use Rattle.primitives.specs.Answers.{refusal_number};
+ghost use Rattle.std.specs.Prelude.{◌≡◌, ◌*◌, ◌≤◌, length, IfOk};
+ghost use Rattle.primitives.specs.Answers.{answer_number};
 ghost use Rattle.primitives.specs.Settings.{settings_of};
 ghost use Rattle.records.specs.Books.{tables};
+ghost use Rattle.records.specs.Lent.{lent_tables, lent_room, plain_books};
+ghost use Rattle.file_format.specs.Words.{words};
 ghost use Rattle.file_calls.specs.Ready.{Accepted, Holds};
-ghost use Rattle.runs.specs.Ready.{CallsAt, operations_at};
-ghost use Rattle.runs.specs.Promise.{Done, CarriedOut};
-ghost use Rattle.runs.specs.Judged.{Judged};
+ghost use Rattle.runs.specs.Ready.{CallsThere, operations_there};
+ghost use Rattle.runs.specs.Promise.{carry_out_answer, Done, CarriedOut};
+ghost use Rattle.runs.specs.Left.{scalars_left, calls_done};
+ghost use Rattle.runs.specs.Judged.{Runnable};
 
-use primitives::answers::{self, Refusal};
+use calls_reader::EncodedCall;
+use primitives::answers::Refusal;
 use primitives::{Gwei, Scalars, Settings};
 use records::books::Books;
 
-// What carrying out a calls file answers: the number of its cause, the scalars that it leaves, and how many calls were
-// carried out.
+// What carrying out a calls file leaves: the scalars, and how many calls were carried out.
 #[derive(Clone, Copy)]
 pub struct Carried {
-    pub number: u8,
     pub scalars: Scalars,
     pub count: usize,
 }
@@ -37,29 +41,16 @@ struct Judgement {
 // The books first, then the file, then whether `space` numbers have room for its results.
 fn judge(
     settings: Settings,
-    scalars: Scalars,
-    identities: &[u8],
-    validators: &[u64],
-    deposits: &[u64],
-    partials: &[u64],
-    consolidations: &[u64],
+    books: &Books<'_>,
     file: &[u8],
     space: usize,
 ) -> Result<Judgement, Refusal>
-    ensures { let judged = Judged (settings_of settings) scalars
-        (tables identities.now validators.now deposits.now
-        partials.now consolidations.now)
-        file.now space in MatchResult result (λ j. judged 0 j.held.0 j.count) (λ e. judged (refusal_number e) 0 0) }
+    ensures number { answer_number result
+        ≡ carry_out_answer (settings_of settings) (plain_books books.now) (lent_room books.now) file.now space }
+    ensures runnable { IfOk result (λ j. Runnable (settings_of settings) books.now.scalars (lent_tables books.now)
+        file.now space j.held.0 j.count) }
 {
-    let books = Books {
-        scalars,
-        identities,
-        validators,
-        deposits,
-        partials,
-        consolidations,
-    };
-    let held = acceptance::accept(settings, &books)?;
+    let held = acceptance::accept(settings, books)?;
     if !calls_reader::calls_file_ok(file) {
         return Err(Refusal::BrokenFile);
     }
@@ -70,7 +61,7 @@ fn judge(
     Ok(Judgement { held, count })
 }
 
-// The n calls of a file that was judged good, on books that hold `opening`.
+// The n calls at the front of what is left of a file, on books that hold `opening`.
 fn carry_out_calls(
     settings: Settings,
     scalars: Scalars,
@@ -80,13 +71,13 @@ fn carry_out_calls(
     partials: &mut [u64],
     consolidations: &mut [u64],
     opening: Gwei,
-    file: &[u8],
+    calls: &[u8],
     n: usize,
     results: &mut [u64],
 ) -> Scalars
     requires accepted { Accepted (settings_of settings) scalars
         (tables identities.old validators.old deposits.old partials.old consolidations.old) }
-    requires calls_at { CallsAt file.now n }
+    requires calls_there { CallsThere (words calls.now) n }
     requires results_hold_calls { 3 * n ≤ length results.old }
     requires holds { Holds scalars
         (tables identities.old validators.old deposits.old partials.old consolidations.old) opening.0 }
@@ -95,12 +86,13 @@ fn carry_out_calls(
         partials.old consolidations.old)
         (tables identities.new validators.new deposits.new
         partials.new consolidations.new)
-        (operations_at file.now n) results.old results.new result n }
+        (operations_there (words calls.now) n) results.old results.new result n }
 {
     let mut after = scalars;
     let mut sum = opening;
-    let mut k: usize = 2;
+    let mut rest = calls;
     for i in 0..n {
+        let call = EncodedCall { rest };
         let done = lines::carry_out_line(
             settings,
             after,
@@ -110,14 +102,13 @@ fn carry_out_calls(
             partials,
             consolidations,
             sum,
-            file,
-            k,
+            call,
             results,
             i,
         );
         after = done.scalars;
         sum = done.sum;
-        k = calls_reader::next_call(file, k);
+        rest = call.next();
     }
     after
 }
@@ -134,34 +125,23 @@ pub fn carry_out(
     consolidations: &mut [u64],
     file: &[u8],
     results: &mut [u64],
-) -> Carried
+) -> Result<Carried, Refusal>
     ensures { CarriedOut (settings_of settings) scalars
         (tables identities.old validators.old deposits.old
         partials.old consolidations.old)
         (tables identities.new validators.new deposits.new
         partials.new consolidations.new)
-        file.now results.old results.new result.number result.scalars result.count }
+        file.now results.old results.new (answer_number result) (scalars_left scalars result) (calls_done result) }
 {
-    let judged = match judge(
-        settings,
+    let books = Books {
         scalars,
         identities,
         validators,
         deposits,
         partials,
         consolidations,
-        file,
-        results.len(),
-    ) {
-        Ok(judged) => judged,
-        Err(refusal) => {
-            return Carried {
-                number: refusal.number(),
-                scalars,
-                count: 0,
-            };
-        }
     };
+    let judged = judge(settings, &books, file, results.len())?;
     let after = carry_out_calls(
         settings,
         scalars,
@@ -171,13 +151,12 @@ pub fn carry_out(
         partials,
         consolidations,
         judged.held,
-        file,
+        calls_reader::calls_from(file),
         judged.count,
         results,
     );
-    Carried {
-        number: answers::DONE,
+    Ok(Carried {
         scalars: after,
         count: judged.count,
-    }
+    })
 }

@@ -2,10 +2,11 @@
 ghost use Rattle.std.specs.Prelude.{◌≡◌, ◌+◌, ◌*◌, ◌≤◌, length};
 ghost use Rattle.primitives.specs.Settings.{settings_of};
 ghost use Rattle.records.specs.Books.{tables};
-ghost use Rattle.file_calls.specs.Ready.{Accepted, Holds, CallAt, operation_at};
+ghost use Rattle.file_calls.specs.Ready.{Accepted, Holds, operation_of};
 ghost use Rattle.runs.specs.Lines.{with_line};
 ghost use Rattle.runs.specs.Ready.{Written};
 
+use calls_reader::EncodedCall;
 use primitives::answers::answer_number;
 use primitives::{Gwei, Scalars, Settings};
 
@@ -26,7 +27,8 @@ pub struct LineDone {
     pub sum: Gwei,
 }
 
-// The call at word k, with line i, on books that hold `sum`.
+// The call with line i, on books that hold `sum`.
+// The tables stay apart, and what is known of them stays a clause: the call writes all five, as C lends them.
 pub fn carry_out_line(
     settings: Settings,
     scalars: Scalars,
@@ -36,18 +38,16 @@ pub fn carry_out_line(
     partials: &mut [u64],
     consolidations: &mut [u64],
     sum: Gwei,
-    file: &[u8],
-    k: usize,
+    call: EncodedCall<'_>,
     results: &mut [u64],
     i: usize,
 ) -> LineDone
     requires accepted { Accepted (settings_of settings) scalars
         (tables identities.old validators.old deposits.old partials.old consolidations.old) }
-    requires call_at { CallAt file.now k }
     requires results_hold_line { 3 * i + 3 ≤ length results.old }
     requires holds { Holds scalars
         (tables identities.old validators.old deposits.old partials.old consolidations.old) sum.0 }
-    ensures written { Written (settings_of settings) (operation_at file.now k) scalars
+    ensures written { Written (settings_of settings) (operation_of call.entry.rest.now) scalars
         (tables identities.old validators.old deposits.old
         partials.old consolidations.old)
         (tables identities.new validators.new deposits.new
@@ -57,8 +57,8 @@ pub fn carry_out_line(
         (tables identities.new validators.new deposits.new
         partials.new consolidations.new) result.sum.0 }
 {
-    let code = calls_reader::code_at(file, k);
-    let taken = crate::sums::penalty_taken(scalars, validators, file, k, code);
+    let kind = call.kind();
+    let taken = crate::sums::penalty_taken(scalars, validators, call, kind);
     let answer = file_calls::carry_out_call(
         settings,
         scalars,
@@ -68,15 +68,14 @@ pub fn carry_out_line(
         partials,
         consolidations,
         sum,
-        file,
-        k,
+        call,
     );
     let number = answer_number(&answer);
     let after = answer.unwrap_or(scalars);
     let total = crate::sums::held_after(
-        sum, taken, number, scalars, after, validators, deposits, file, k, code,
+        sum, taken, number, scalars, after, validators, deposits, call, kind,
     );
-    put_line(results, i, code as u64, number as u64, total);
+    put_line(results, i, kind as u64, number as u64, total);
     LineDone {
         scalars: after,
         sum: total,

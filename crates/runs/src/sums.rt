@@ -5,35 +5,41 @@ ghost use Rattle.records.specs.Layout.{validators_fit};
 ghost use Rattle.records.specs.Books.{tables, books_of};
 ghost use Rattle.acceptance.specs.Held.{HeldReady, balances_in, amounts_in};
 ghost use Rattle.file_format.specs.Words.{words};
-ghost use Rattle.calls_reader.specs.Widths.{code_at};
-ghost use Rattle.file_calls.specs.Ready.{CallAt, operation_at};
+ghost use Rattle.calls_reader.specs.Widths.{code_of};
+ghost use Rattle.calls_reader.specs.Plain.{kind_code};
+ghost use Rattle.file_calls.specs.Ready.{operation_of};
 ghost use Rattle.runs.specs.Sums.{penalty_taken, Followed};
 
+use calls_reader::{EncodedCall, Kind};
 use primitives::{Gwei, Scalars, answers};
 
 // What a penalty is about to take; 0 for any other call.
-pub fn penalty_taken(scalars: Scalars, validators: &[u64], file: &[u8], k: usize, code: u32) -> Gwei
+pub fn penalty_taken(
+    scalars: Scalars,
+    validators: &[u64],
+    call: EncodedCall<'_>,
+    kind: Kind,
+) -> Gwei
     requires validators_stored { scalars.validators ≤ validators_fit validators.now }
-    requires call_at { CallAt file.now k }
-    requires code_read { code ≡ code_at (words file.now) k }
+    requires kind_read { kind_code kind ≡ code_of (words call.rest.now) }
     ensures { (ids ds ps cs : List ℕ)
-        → result.0 ≡ penalty_taken (operation_at file.now k)
+        → result.0 ≡ penalty_taken (operation_of call.entry.rest.now)
         (books_of scalars (tables ids validators.now ds ps cs)) }
 {
-    if code != 2 {
-        return Gwei(0);
+    match kind {
+        Kind::Penalty => {
+            let penalty = call.amount();
+            if scalars.validators <= penalty.i.0 {
+                return Gwei(0);
+            }
+            let balance = records::registry::balance_at(validators, penalty.i);
+            Gwei(penalty.amount.0.min(balance.0))
+        }
+        _ => Gwei(0),
     }
-    let call = calls_reader::amount_at(file, k);
-    let i = call.i;
-    if scalars.validators <= i.0 {
-        return Gwei(0);
-    }
-    let balance = records::registry::balance_at(validators, i);
-    Gwei(call.amount.0.min(balance.0))
 }
 
-// The sum after the call at word k, which answered `number` and left the scalars `after`; `taken` is what a penalty
-// took.
+// The sum after the call, which answered `number` and left the scalars `after`; `taken` is what a penalty took.
 pub fn held_after(
     sum: Gwei,
     taken: Gwei,
@@ -42,14 +48,12 @@ pub fn held_after(
     after: Scalars,
     validators: &[u64],
     deposits: &[u64],
-    file: &[u8],
-    k: usize,
-    code: u32,
+    call: EncodedCall<'_>,
+    kind: Kind,
 ) -> Gwei
     requires held_ready { HeldReady after validators.now deposits.now }
-    requires call_at { CallAt file.now k }
-    requires code_read { code ≡ code_at (words file.now) k }
-    requires followed { Followed (operation_at file.now k) number sum.0 taken.0 before.deposits after.deposits
+    requires kind_read { kind_code kind ≡ code_of (words call.rest.now) }
+    requires followed { Followed (operation_of call.rest.now) number sum.0 taken.0 before.deposits after.deposits
         (balances_in after.validators validators.now + amounts_in after.deposits deposits.now) }
     ensures { result.0
         ≡ balances_in after.validators validators.now
@@ -58,22 +62,20 @@ pub fn held_after(
     if number != answers::DONE {
         return sum;
     }
-    if code == 1 {
-        let call = calls_reader::amount_at(file, k);
-        return Gwei(sum.0 + call.amount.0);
-    }
-    if code == 2 {
-        return Gwei(sum.0 - taken.0);
-    }
-    if code == 3 {
-        let call = calls_reader::receipt_at(file, k);
-        if after.deposits == before.deposits {
-            return sum;
+    match kind {
+        Kind::Reward => {
+            let reward = call.amount();
+            Gwei(sum.0 + reward.amount.0)
         }
-        return Gwei(sum.0 + call.amount.0);
+        Kind::Penalty => Gwei(sum.0 - taken.0),
+        Kind::DepositReceipt => {
+            let receipt = call.receipt();
+            if after.deposits == before.deposits {
+                return sum;
+            }
+            Gwei(sum.0 + receipt.amount.0)
+        }
+        Kind::Withdrawals => acceptance::held(after, validators, deposits),
+        _ => sum,
     }
-    if code == 8 {
-        return acceptance::held(after, validators, deposits);
-    }
-    sum
 }

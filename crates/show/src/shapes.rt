@@ -1,5 +1,6 @@
 // What the files hold, record for record: the names, and the kinds of the fields.
 
+// It stays an enum of its own: three shapes of a field, of which one has a length.
 #[derive(Clone, Copy)]
 pub enum Field {
     Number,

@@ -9,6 +9,7 @@ use std::io;
 use std::io::{BufWriter, Stdout, Write};
 
 // Text that waits to be written, and whether it ends within a line.
+// The flag stays beside the writer: it is no answer, but what the writer knows of its last byte.
 #[derive(Drop)]
 struct Lines {
     to: BufWriter<Stdout>,

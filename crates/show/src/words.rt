@@ -4,6 +4,7 @@ use std::fs::File;
 use std::io;
 
 // Why the text ends early.
+// It stays an enum of its own: an error, of which one case keeps the cause that std gives.
 #[derive(Debug, Drop)]
 pub enum Fault {
     Broken,
@@ -18,6 +19,8 @@ impl From<io::Error> for Fault {
 
 // A file, what was read of it last, the place of the next word there and how many are there; and the sum of the words
 // that were taken.
+// The buffer stays one of its own, no BufReader: where the last bytes are no whole word, the text ends before the words
+// read with them.
 #[derive(Drop)]
 pub struct Words {
     file: File,

@@ -1,42 +1,16 @@
 // A call of the file, or a step of a turn alone: which one, and what the file holds of it.
-ghost use Rattle.file_calls.specs.Ready.{CallAt};
-
-use calls_reader::{Amount, Consolidation, Exit, Receipt, Request, Withdrawals};
+use calls_reader::{Call as FormatCall, EncodedCall};
 use primitives::Scalars;
 use primitives::answers::Refusal;
 use recorded_cases::books::{Books, Lent};
 
+// It stays an enum of its own: a call of the format, or one of three steps that have no fields.
 #[derive(Clone, Copy)]
 pub enum Call {
-    Reward(Amount),
-    Penalty(Amount),
-    DepositReceipt(Receipt),
-    VoluntaryExit(Exit),
-    WithdrawalRequest(Request),
-    Consolidation(Consolidation),
-    Turn,
-    Withdrawals(Withdrawals),
+    OfFormat(FormatCall),
     DepositStep,
     ConsolidationStep,
     EffectiveBalanceStep,
-}
-
-// The call of the format that stands at word k.
-fn file_call(file: &[u8], k: usize) -> Option<Call>
-    requires { CallAt file.now k }
-{
-    let call = match calls_reader::code_at(file, k) {
-        1 => Call::Reward(calls_reader::amount_at(file, k)),
-        2 => Call::Penalty(calls_reader::amount_at(file, k)),
-        3 => Call::DepositReceipt(calls_reader::receipt_at(file, k)),
-        4 => Call::VoluntaryExit(calls_reader::exit_at(file, k)),
-        5 => Call::WithdrawalRequest(calls_reader::request_at(file, k)),
-        6 => Call::Consolidation(calls_reader::consolidation_at(file, k)),
-        7 => Call::Turn,
-        8 => Call::Withdrawals(calls_reader::withdrawals_at(file, k)),
-        _ => return None,
-    };
-    Some(call)
 }
 
 // A step has no fields.
@@ -49,17 +23,14 @@ fn step(code: u32) -> Option<Call> {
     }
 }
 
-// The call at word k, and the word behind it.
-pub fn call_at(file: &[u8], k: usize) -> Option<(Call, usize)> {
-    if 0x40_0000_0000 < k {
-        return None;
+// The call at the front of what is left of a file, and what stands behind it.
+pub fn call_at(rest: &[u8]) -> Option<(Call, &[u8])> {
+    if calls_reader::call_ok(rest) {
+        let call = EncodedCall { rest };
+        return Some((Call::OfFormat(call.call()), call.next()));
     }
-    if calls_reader::call_ok(file, k) {
-        let call = file_call(file, k)?;
-        return Some((call, calls_reader::next_call(file, k)));
-    }
-    let call = step(calls_reader::code_at(file, k))?;
-    Some((call, k + 1))
+    let alone = step(calls_reader::code_at(rest))?;
+    Some((alone, rest.get(4..)?))
 }
 
 // The call, by the public call of the library.
@@ -74,7 +45,7 @@ pub fn carry_out(books: &mut Books, call: Call) -> Result<Scalars, Refusal> {
         consolidations,
     } = books.tables.lend();
     match call {
-        Call::Reward(call) => electra::reward::reward(
+        Call::OfFormat(FormatCall::Reward(call)) => electra::reward::reward(
             settings,
             scalars,
             identities,
@@ -85,7 +56,7 @@ pub fn carry_out(books: &mut Books, call: Call) -> Result<Scalars, Refusal> {
             call.i,
             call.amount,
         ),
-        Call::Penalty(call) => electra::penalty::penalty(
+        Call::OfFormat(FormatCall::Penalty(call)) => electra::penalty::penalty(
             settings,
             scalars,
             identities,
@@ -96,33 +67,35 @@ pub fn carry_out(books: &mut Books, call: Call) -> Result<Scalars, Refusal> {
             call.i,
             call.amount,
         ),
-        Call::DepositReceipt(call) => operations::deposit_receipts::process_deposit_receipt(
-            settings,
-            scalars,
-            identities,
-            validators,
-            deposits,
-            partials,
-            consolidations,
-            call.public_key,
-            call.withdrawal_credentials,
-            call.amount,
-            call.index,
-            call.valid,
-        ),
-        Call::VoluntaryExit(call) => operations::voluntary_exits::process_voluntary_exit(
-            settings,
-            scalars,
-            identities,
-            validators,
-            deposits,
-            partials,
-            consolidations,
-            call.i,
-            call.epoch,
-            call.valid,
-        ),
-        Call::WithdrawalRequest(call) => {
+        Call::OfFormat(FormatCall::DepositReceipt(call)) =>
+            operations::deposit_receipts::process_deposit_receipt(
+                settings,
+                scalars,
+                identities,
+                validators,
+                deposits,
+                partials,
+                consolidations,
+                call.public_key,
+                call.withdrawal_credentials,
+                call.amount,
+                call.index,
+                call.valid,
+            ),
+        Call::OfFormat(FormatCall::VoluntaryExit(call)) =>
+            operations::voluntary_exits::process_voluntary_exit(
+                settings,
+                scalars,
+                identities,
+                validators,
+                deposits,
+                partials,
+                consolidations,
+                call.i,
+                call.epoch,
+                call.valid,
+            ),
+        Call::OfFormat(FormatCall::WithdrawalRequest(call)) => {
             operations::withdrawal_requests::process_execution_layer_withdrawal_request(
                 settings,
                 scalars,
@@ -136,7 +109,21 @@ pub fn carry_out(books: &mut Books, call: Call) -> Result<Scalars, Refusal> {
                 call.amount,
             )
         }
-        Call::Consolidation(call) => operations::consolidations::process_consolidation(
+        Call::OfFormat(FormatCall::Consolidation(call)) =>
+            operations::consolidations::process_consolidation(
+                settings,
+                scalars,
+                identities,
+                validators,
+                deposits,
+                partials,
+                consolidations,
+                call.source_index,
+                call.target_index,
+                call.epoch,
+                call.valid,
+            ),
+        Call::OfFormat(FormatCall::Turn) => electra::turns::turn(
             settings,
             scalars,
             identities,
@@ -144,21 +131,8 @@ pub fn carry_out(books: &mut Books, call: Call) -> Result<Scalars, Refusal> {
             deposits,
             partials,
             consolidations,
-            call.source_index,
-            call.target_index,
-            call.epoch,
-            call.valid,
         ),
-        Call::Turn => electra::turns::turn(
-            settings,
-            scalars,
-            identities,
-            validators,
-            deposits,
-            partials,
-            consolidations,
-        ),
-        Call::Withdrawals(call) => operations::payments::process_withdrawals(
+        Call::OfFormat(FormatCall::Withdrawals(call)) => operations::payments::process_withdrawals(
             settings,
             scalars,
             identities,

@@ -21,10 +21,10 @@ pub fn carry_out(books: &mut Books, file: &[u8], results: &mut Results) -> Resul
     let Some(lines) = lines.get_mut(..count) else {
         return Err(Broken);
     };
-    let mut k = 2;
+    let mut rest = calls_reader::calls_from(file);
     for line in lines {
-        let (call, behind) = calls::call_at(file, k).ok_or(Broken)?;
-        let code = calls_reader::code_at(file, k);
+        let (call, behind) = calls::call_at(rest).ok_or(Broken)?;
+        let code = calls_reader::code_at(rest);
         let answer = calls::carry_out(books, call);
         if let Ok(scalars) = answer {
             books.scalars = scalars;
@@ -34,7 +34,7 @@ pub fn carry_out(books: &mut Books, file: &[u8], results: &mut Results) -> Resul
             u64::from(answer_number(&answer)),
             sums::total(books),
         ];
-        k = behind;
+        rest = behind;
     }
     Ok(count)
 }

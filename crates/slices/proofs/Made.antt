@@ -5,7 +5,8 @@ use Rattle.std.specs.Array.{IsFromFnResult, IsFromFnResultFrom}
 use denote.Param.Members.{Mut, Called}
 use Rattle.tables.specs.Rows.{rows, rows_ext, rows_getD}
 
-listed : {B : Type 0} (h : ℕ → B) (ys : List B) (n : ℕ) → length ys ≡ n → ((k : ℕ) (d : B) → k < n → get_or ys k d ≡ h k) → ys ≡ rows n h
+listed : {B : Type 0} (h : ℕ → B) (ys : List B) (n : ℕ) → length ys ≡ n
+    → ((k : ℕ) (d : B) → k < n → get_or ys k d ≡ h k) → ys ≡ rows n h
 unfolding rows
 listed h [] zero e a = refl
 listed h [] (suc n) e a = let z : ⊥ = omega arith in absurd z

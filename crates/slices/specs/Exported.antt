@@ -113,7 +113,8 @@ module _ {xs : List ℕ} {op : Operation} {others : List Bool} {t : Tables} {s :
   exported_answered a e g z b k h w = exported_called e g z b (rw (← h) at k) (rw (← b) at w)
 
 -- by the frame of an exported call: where the slices fit, what the call answered and left; else nothing was called
-pub exported_framed : {xs : List ℕ} {op : Operation} {others : List Bool} {t u : Tables} {s r : List ℕ} {n : ℕ} {f : Bool}
+pub exported_framed : {xs : List ℕ} {op : Operation} {others : List Bool} {t u : Tables} {s r : List ℕ} {n : ℕ}
+    {f : Bool}
     → f ≡ fit s others
     → (f ≡ true
     → (a : Result Scalars Refusal)

@@ -31,7 +31,9 @@ module _ {l : List ℕ} {g : ℕ → ℕ} where
       → length xs ≡ length (take (e - j) (drop j m)) → ((k : ℕ) → k < e - j → get_or xs k 0 ≡ g (j + k))
       → Front l g j m → Front l g e (put_mid j (e - j) m xs)
   front_part {j} {m} e xs le h long same p = record {
-    size = ap length w ∙ length-append (rows e g) (drop e l) ∙ (simp (length_rows, length-drop) (omega (arith, p.size, h)));
+    size =
+        ap length w ∙ length-append (rows e g) (drop e l)
+        ∙ (simp (length_rows, length-drop) (omega (arith, p.size, h)));
     words = w;
   }
     where

@@ -1,5 +1,9 @@
 // Settings, scalars, keys and addresses as plain slices, for calls from other languages.
 
+// What C lends stays slices of numbers here, and a number stays the answer that C takes: `settings_from` and
+// `scalars_from` stay beside the From that they call, since a slice has no length in its type. What is missing of
+// settings reads as 0; of scalars nothing may be missing.
+
 #![tactic(auto)]
 
 pub mod bytes; // keys, credentials, addresses

@@ -42,7 +42,6 @@ pub fn handed_fit(scalars: &[u64], records: &[u64], addresses: &[u8], n: u64) ->
 }
 
 // There is room for sixteen.
-
 pub fn expected_fit(scalars: &[u64], records: &[u64], addresses: &[u8]) -> bool
     ensures { result
         ≡ fit scalars.now

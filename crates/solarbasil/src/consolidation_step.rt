@@ -4,6 +4,7 @@ ghost use Rattle.rules.specs.Calls.{pending_consolidations};
 ghost use Rattle.records.specs.Books.{tables};
 ghost use Rattle.slices.specs.Exported.{Exported};
 
+// The tables stay apart: C lends each by itself, some of them const.
 #[unsafe(no_mangle)]
 pub extern "C" fn solarbasil_process_pending_consolidations(
     settings: &[u64],

@@ -4,6 +4,7 @@ ghost use Rattle.rules.specs.Calls.{effective_balance_updates};
 ghost use Rattle.records.specs.Books.{tables};
 ghost use Rattle.slices.specs.Exported.{Exported};
 
+// The tables stay apart: C lends each by itself. The function stays beside solarbasil_turn: C has both names.
 #[unsafe(no_mangle)]
 pub extern "C" fn solarbasil_process_effective_balance_updates(
     settings: &[u64],

@@ -10,6 +10,7 @@ use records::books::Books;
 
 // Sixteen records of three numbers and sixteen addresses, blank past `count`; of the withdrawals the first
 // `partial_count` are partial withdrawals. A refusal leaves all four as they were.
+// The tables stay apart: C lends each by itself, and all const.
 #[unsafe(no_mangle)]
 pub extern "C" fn solarbasil_get_expected_withdrawals(
     settings: &[u64],

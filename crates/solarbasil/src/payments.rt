@@ -8,6 +8,7 @@ ghost use Rattle.slices.specs.Exported.{Exported};
 
 // `count` withdrawals: three numbers each in `records`, twenty bytes each in `addresses`. What stands past them is not
 // looked at. Where one of the two is shorter, it is a short buffer.
+// The tables stay apart: C lends each by itself, some of them const.
 #[unsafe(no_mangle)]
 pub extern "C" fn solarbasil_process_withdrawals(
     settings: &[u64],

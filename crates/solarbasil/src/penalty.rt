@@ -6,6 +6,7 @@ ghost use Rattle.slices.specs.Exported.{Exported};
 
 use primitives::{Gwei, ValidatorIndex};
 
+// The tables stay apart: C lends each by itself. The function stays beside solarbasil_reward: C has both names.
 #[unsafe(no_mangle)]
 pub extern "C" fn solarbasil_penalty(
     settings: &[u64],

@@ -3,6 +3,7 @@ ghost use Rattle.records.specs.Books.{tables};
 ghost use Rattle.file_slices.specs.Read.{ExportedRead};
 
 // The settings take nineteen numbers, the scalars thirteen; where one has no room for them, it is a short buffer.
+// The tables stay apart: C lends each by itself.
 #[unsafe(no_mangle)]
 pub extern "C" fn solarbasil_read_books(
     settings: &mut [u64],

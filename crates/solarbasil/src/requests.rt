@@ -7,6 +7,7 @@ ghost use Rattle.slices.specs.Exported.{Exported};
 use primitives::Gwei;
 
 // An address or a key of another length is answered as a short buffer. An amount of 0 asks for a full exit.
+// The tables stay apart: C lends each by itself, some of them const.
 #[unsafe(no_mangle)]
 pub extern "C" fn solarbasil_process_execution_layer_withdrawal_request(
     settings: &[u64],

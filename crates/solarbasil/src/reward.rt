@@ -6,6 +6,7 @@ ghost use Rattle.slices.specs.Exported.{Exported};
 
 use primitives::{Gwei, ValidatorIndex};
 
+// The tables stay apart: C lends each by itself. The function stays beside solarbasil_penalty: C has both names.
 #[unsafe(no_mangle)]
 pub extern "C" fn solarbasil_reward(
     settings: &[u64],

@@ -4,6 +4,7 @@ ghost use Rattle.file_slices.specs.Carried.{ExportedCarried};
 
 // `count` is how many calls were carried out; the results begin with three numbers of each: its code, its answer, and
 // the sum that the books hold after it. A refusal leaves all as it was.
+// The tables stay apart: C lends each by itself.
 #[unsafe(no_mangle)]
 pub extern "C" fn solarbasil_carry_out(
     settings: &[u64],

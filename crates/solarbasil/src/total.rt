@@ -9,6 +9,7 @@ use primitives::answers;
 use records::books::Books;
 
 // Balances plus waiting deposits; a refusal leaves `total` as it was.
+// The tables stay apart: C lends each by itself, and all const.
 #[unsafe(no_mangle)]
 pub extern "C" fn solarbasil_total(
     settings: &[u64],

@@ -4,6 +4,8 @@ ghost use Rattle.rules.specs.Calls.{turn};
 ghost use Rattle.records.specs.Books.{tables};
 ghost use Rattle.slices.specs.Exported.{Exported};
 
+// The tables stay apart: C lends each by itself. The function stays beside
+// solarbasil_process_effective_balance_updates: C has both names.
 #[unsafe(no_mangle)]
 pub extern "C" fn solarbasil_turn(
     settings: &[u64],

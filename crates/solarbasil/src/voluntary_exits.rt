@@ -7,6 +7,7 @@ ghost use Rattle.slices.specs.Exported.{Exported};
 use primitives::{Epoch, ValidatorIndex};
 
 // `valid` says whether the signature is good.
+// The tables stay apart: C lends each by itself, some of them const.
 #[unsafe(no_mangle)]
 pub extern "C" fn solarbasil_process_voluntary_exit(
     settings: &[u64],

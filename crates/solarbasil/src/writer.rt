@@ -3,6 +3,7 @@ ghost use Rattle.records.specs.Books.{tables};
 ghost use Rattle.file_slices.specs.Written.{ExportedWritten};
 
 // The file stands at the start of `out`, and `written` is how many bytes it has; a refusal leaves both as they were.
+// The tables stay apart: C lends each by itself, and all const.
 #[unsafe(no_mangle)]
 pub extern "C" fn solarbasil_write_books(
     settings: &[u64],

@@ -16,11 +16,12 @@ use Rattle.records.specs.Queues.{Pushed}
 use Rattle.records.specs.Stores.{ValidatorPushed, put_validator, validator_stored}
 use Rattle.acceptance.specs.Sound.{books_with}
 use Rattle.file_format.specs.Words.{words}
-use Rattle.file_format.specs.Fields.{field, flag}
+use Rattle.file_format.specs.Fields.{field}
 use Rattle.file_format.specs.Books.{validator, deposit, partial, consolidation}
-use Rattle.file_format.specs.Places.{number_at, deposits_place, partials_place, consolidations_place}
+use Rattle.file_format.specs.Places.{deposits_place, partials_place, consolidations_place}
+use Rattle.file_format.proofs.PlacesLaws as places
+use Rattle.file_format.proofs.PlacesLaws.{good_validator}
 use Rattle.file_bytes.specs.Laws.{field_size}
-use Rattle.file_records.specs.Laws.{validator_there, validator_good}
 use Rattle.file_records.specs.Scalars.{scalars_at}
 use Rattle.file_records.specs.Lists.{listed_from}
 use Rattle.file_records.specs.Books.{validators_counted, deposits_counted, partials_counted, consolidations_counted}
@@ -30,7 +31,7 @@ use Rattle.table_stores.specs.Stored.{ConsolidationsStored, BooksStored}
 
 -- ---- a field into its part of a table, w bytes from `at` on
 
-module _ (bs : List ℕ) (k n : ℕ) (e : (field n).ok (drop k (words bs)) ≡ true) (l : List ℕ) (at w : ℕ) where
+module _ (bs : List ℕ) (n : ℕ) (e : (field n).ok (words bs) ≡ true) (l : List ℕ) (at w : ℕ) where
   abbrev part : List ℕ
   part = take w (drop at l)
 
@@ -38,79 +39,51 @@ module _ (bs : List ℕ) (k n : ℕ) (e : (field n).ok (drop k (words bs)) ≡ t
     part_size : length part ≡ n
     part_size = simp (length-take, length-drop) (omega arith)
 
-    pub part_ok : (field (length part)).ok (drop k (words bs)) ≡ true
+    pub part_ok : (field (length part)).ok (words bs) ≡ true
     part_ok = rw part_size e
 
-    pub part_put : {ys : List ℕ} → ys ≡ (field (length part)).value (drop k (words bs))
-        → put_mid at w l ys ≡ paste l at ((field n).value (drop k (words bs))) n
+    pub part_put : {ys : List ℕ} → ys ≡ (field (length part)).value (words bs)
+        → put_mid at w l ys ≡ paste l at ((field n).value (words bs)) n
     part_put {ys} p =
-        put_mid-paste at w l ys ((field n).value (drop k (words bs))) n (rw part_size at p) (sym q)
-        (sym (field_size bs k n e))
+        put_mid-paste at w l ys ((field n).value (words bs)) n (rw part_size at p) (sym q) (sym (field_size bs n e))
 
-    pub part_length : {ys : List ℕ} → ys ≡ (field (length part)).value (drop k (words bs))
+    pub part_length : {ys : List ℕ} → ys ≡ (field (length part)).value (words bs)
         → length (put_mid at w l ys) ≡ length l
     part_length p =
-        ap length (part_put p)
-        ∙ length-paste l at ((field n).value (drop k (words bs))) n h (omega (arith, field_size bs k n e))
+        ap length (part_put p) ∙ length-paste l at ((field n).value (words bs)) n h (omega (arith, field_size bs n e))
 
--- ---- a validator at word k
+-- ---- the validator at the front of bs, whose credentials are at the front of cs
 
--- its numbers, stored one after another
-pub words_stored : (ws : List ℕ) (k : ℕ) (vs : List ℕ) (n : ℕ) {s b₁ b₂ b₃ b₄ b₅ b₆ : ℕ}
-    → s ≡ flag.value (drop (k + 27) ws) → b₁ ≡ number_at ws (k + 28) → b₂ ≡ number_at ws (k + 31)
-    → b₃ ≡ number_at ws (k + 34) → b₄ ≡ number_at ws (k + 37) → b₅ ≡ number_at ws (k + 40)
-    → b₆ ≡ number_at ws (k + 43)
-    → put_validator vs n (record {
-      public_key = (field 48).value (drop k ws);
-      withdrawal_credentials = (field 32).value (drop (k + 16) ws);
-      slashed = s;
-      effective_balance = b₁;
-      activation_eligibility_epoch = b₂;
-      activation_epoch = b₃;
-      exit_epoch = b₄;
-      withdrawable_epoch = b₅;
-      balance = b₆;
-    })
-    ≡ put_validator vs n (validator.value (drop k ws))
-words_stored ws k vs n e g₁ g₂ g₃ g₄ g₅ g₆ =
-    ap (put_validator vs n)
-    ((λ j. record {
-      public_key = (field 48).value (drop k ws);
-      withdrawal_credentials = (field 32).value (drop (k + 16) ws);
-      slashed = e j;
-      effective_balance = g₁ j;
-      activation_eligibility_epoch = g₂ j;
-      activation_epoch = g₃ j;
-      exit_epoch = g₄ j;
-      withdrawable_epoch = g₅ j;
-      balance = g₆ j;
-    })
-    ∙ sym (validator_there ws k))
+module _ (bs cs : List ℕ) (e : validator.ok (words bs) ≡ true) (q : words cs ≡ drop 16 (words bs)) where
+  pub key_good : (field 48).ok (words bs) ≡ true
+  key_good = (good_validator (words bs) e).key
 
-module _ (bs : List ℕ) (k : ℕ) (e : validator.ok (drop k (words bs)) ≡ true) (ids vs : List ℕ) (n : ℕ) where
+  pub credentials_good : (field 32).ok (words cs) ≡ true
+  credentials_good = rw q (good_validator (words bs) e).credentials
+
   abbrev v : Validator
-  v = validator.value (drop k (words bs))
+  v = validator.value (words bs)
 
-  key_there : v.public_key ≡ (field 48).value (drop k (words bs))
-  key_there = ap (λ (x : Validator). x.public_key) (validator_there (words bs) k)
+  key_there : v.public_key ≡ (field 48).value (words bs)
+  key_there = ap (λ (x : Validator). x.public_key) (places.validator_at (words bs))
 
-  credentials_there : v.withdrawal_credentials ≡ (field 32).value (drop (k + 16) (words bs))
-  credentials_there = ap (λ (x : Validator). x.withdrawal_credentials) (validator_there (words bs) k)
+  credentials_there : v.withdrawal_credentials ≡ (field 32).value (words cs)
+  credentials_there =
+      ap (λ (x : Validator). x.withdrawal_credentials) (places.validator_at (words bs)) ∙ ap (field 32).value (sym q)
 
   -- its bytes, and then its numbers
-  pub validator_put : n < identities_fit ids → n < validators_fit vs → {with_key new_ids new_vs : List ℕ}
-      → with_key ≡ paste ids (48 * n) ((field 48).value (drop k (words bs))) 48
-      → new_ids
-      ≡ paste with_key (48 * identities_fit ids + 32 * n) ((field 32).value (drop (k + 16) (words bs))) 32
+  pub validator_put : (ids vs : List ℕ) (n : ℕ) → n < identities_fit ids → n < validators_fit vs
+      → {with_key new_ids new_vs : List ℕ}
+      → with_key ≡ paste ids (48 * n) ((field 48).value (words bs)) 48
+      → new_ids ≡ paste with_key (48 * identities_fit ids + 32 * n) ((field 32).value (words cs)) 32
       → new_vs ≡ put_validator vs n v
       → ValidatorPushed n v ids vs new_ids new_vs
-  validator_put f g {with_key} p q r =
-      let there = validator_good (words bs) k e in
+  validator_put ids vs n f g {with_key} p c r =
       validator_stored ids vs n v f g
-      (ap length key_there ∙ field_size bs k 48 there.key)
-      (ap length credentials_there ∙ field_size bs (k + 16) 32 there.credentials)
+      (ap length key_there ∙ field_size bs 48 key_good)
+      (ap length credentials_there ∙ field_size cs 32 credentials_good)
       (p ∙ ap (λ x. paste ids (48 * n) x 48) (sym key_there))
-      (q ∙ ap (λ x. paste with_key (48 * identities_fit ids + 32 * n) x 32) (sym credentials_there))
+      (c ∙ ap (λ x. paste with_key (48 * identities_fit ids + 32 * n) x 32) (sym credentials_there))
       r
 
 -- ---- a loop that stores one record after another
@@ -141,7 +114,7 @@ module _ {A : Type 0} (decode : List ℕ → ℕ → A) (width : ℕ) (g : ℕ �
 
 module _ (ws : List ℕ) where
   abbrev file_validator : ℕ → Validator
-  file_validator i = validator.value (drop (86 + i * 46) ws)
+  file_validator i = validator.value (drop (i * 46) ws)
 
   pub validators_none : {ids vs : List ℕ} → ValidatorsStored ws 0 ids vs ids vs
   validators_none {ids} {vs} = record {
@@ -154,7 +127,7 @@ module _ (ws : List ℕ) where
 
   pub validators_more : {i : ℕ} {ids vs mid_ids mid_vs new_ids new_vs : List ℕ}
       → ValidatorsStored ws i ids vs mid_ids mid_vs
-      → ValidatorPushed i (validator.value (drop (86 + i * 46) ws)) mid_ids mid_vs new_ids new_vs
+      → ValidatorPushed i (validator.value (drop (i * 46) ws)) mid_ids mid_vs new_ids new_vs
       → length new_ids ≡ length mid_ids → length new_vs ≡ length mid_vs
       → ValidatorsStored ws (i + 1) ids vs new_ids new_vs
   validators_more {i} {ids} {vs} {mid_ids} {mid_vs} s p y z = record {
@@ -170,21 +143,22 @@ module _ (ws : List ℕ) where
 -- ---- the books
 
 module _ (ws : List ℕ) {s : Scalars} (e : s ≡ scalars_at ws) {t u : Tables} where
-  pub books_stored : {p q r : ℕ} → p ≡ deposits_place ws → q ≡ partials_place ws → r ≡ consolidations_place ws
-      → ValidatorsStored ws s.validators t.identities t.validators u.identities u.validators
-      → DepositsStored ws (p + 1) s.deposits t.deposits u.deposits
-      → PartialsStored ws (q + 1) s.partials t.partials u.partials
-      → ConsolidationsStored ws (r + 1) s.consolidations t.consolidations u.consolidations
+  pub books_stored : {vs ds ps cs : List ℕ} → vs ≡ drop 86 ws → ds ≡ drop (deposits_place ws + 1) ws
+      → ps ≡ drop (partials_place ws + 1) ws → cs ≡ drop (consolidations_place ws + 1) ws
+      → ValidatorsStored vs s.validators t.identities t.validators u.identities u.validators
+      → DepositsStored ds s.deposits t.deposits u.deposits
+      → PartialsStored ps s.partials t.partials u.partials
+      → ConsolidationsStored cs s.consolidations t.consolidations u.consolidations
       → BooksStored ws s t u
   unfolding books_of
-  books_stored p q r v d a c =
-      let v₀ = v.validators ∙ listed_from validator 46 ws refl (validators_counted ws e) in
-      let d₀ = d.records ∙ listed_from deposit 6 ws p (deposits_counted ws e) in
-      let a₀ = a.records ∙ listed_from partial 9 ws q (partials_counted ws e) in
-      let c₀ = c.records ∙ listed_from consolidation 6 ws r (consolidations_counted ws e) in
+  books_stored k l m n v d p c =
+      let v₀ = v.validators ∙ listed_from validator 46 85 ws k (validators_counted ws e) in
+      let d₀ = d.records ∙ listed_from deposit 6 (deposits_place ws) ws l (deposits_counted ws e) in
+      let p₀ = p.records ∙ listed_from partial 9 (partials_place ws) ws m (partials_counted ws e) in
+      let c₀ = c.records ∙ listed_from consolidation 6 (consolidations_place ws) ws n (consolidations_counted ws e) in
       record {
         books =
-            (λ j. books_with s (v₀ j) (d₀ j) (a₀ j) (c₀ j))
+            (λ j. books_with s (v₀ j) (d₀ j) (p₀ j) (c₀ j))
             ∙ ap
             (λ x. books_with x (file_validators ws) (file_deposits ws) (file_partials ws) (file_consolidations ws))
             e
@@ -193,7 +167,7 @@ module _ (ws : List ℕ) {s : Scalars} (e : s ≡ scalars_at ws) {t u : Tables} 
           identities = v.identities_past;
           validators = v.validators_past;
           deposits = d.past;
-          partials = a.past;
+          partials = p.past;
           consolidations = c.past;
         };
       }

@@ -16,20 +16,20 @@ pub record Stored {A : Type 0} (decode : List ℕ → ℕ → A) (width n : ℕ)
   pub records : rows n (decode new) ≡ xs
   pub past : drop (width * n) new ≡ drop (width * n) old
 
-abbrev pub DepositsStored : (ws : List ℕ) (k n : ℕ) (old new : List ℕ) → Type 0
-DepositsStored ws k n = Stored deposit_at 2 n (records_from deposit 6 k n ws)
+abbrev pub DepositsStored : (ws : List ℕ) (n : ℕ) (old new : List ℕ) → Type 0
+DepositsStored ws n = Stored deposit_at 2 n (records_from deposit 6 n ws)
 
-abbrev pub PartialsStored : (ws : List ℕ) (k n : ℕ) (old new : List ℕ) → Type 0
-PartialsStored ws k n = Stored partial_at 3 n (records_from partial 9 k n ws)
+abbrev pub PartialsStored : (ws : List ℕ) (n : ℕ) (old new : List ℕ) → Type 0
+PartialsStored ws n = Stored partial_at 3 n (records_from partial 9 n ws)
 
-abbrev pub ConsolidationsStored : (ws : List ℕ) (k n : ℕ) (old new : List ℕ) → Type 0
-ConsolidationsStored ws k n = Stored consolidation_at 2 n (records_from consolidation 6 k n ws)
+abbrev pub ConsolidationsStored : (ws : List ℕ) (n : ℕ) (old new : List ℕ) → Type 0
+ConsolidationsStored ws n = Stored consolidation_at 2 n (records_from consolidation 6 n ws)
 
 -- the same of the registry's two tables
 pub record ValidatorsStored (ws : List ℕ) (n : ℕ) (ids vs new_ids new_vs : List ℕ) : Type 0 where
   pub identities_size : length new_ids ≡ length ids
   pub validators_size : length new_vs ≡ length vs
-  pub validators : rows n (validator_at new_ids new_vs) ≡ records_from validator 46 86 n ws
+  pub validators : rows n (validator_at new_ids new_vs) ≡ records_from validator 46 n ws
   pub identities_past : identities_past n new_ids ≡ identities_past n ids
   pub validators_past : validators_past n new_vs ≡ validators_past n vs
 

@@ -3,41 +3,41 @@
 
 #![tactic(auto)]
 
-ghost use Rattle.std.specs.Prelude.{◌≡◌, true, ◌/◌, ◌≤◌, ◌<◌, ◌^◌, length, drop};
+ghost use Rattle.std.specs.Prelude.{◌≡◌, true, ◌/◌, ◌≤◌, ◌<◌, length};
 ghost use Rattle.records.specs.Layout.{identities_fit, validators_fit};
 ghost use Rattle.records.specs.Books.{tables};
 ghost use Rattle.records.specs.Stores.{put_validator, ValidatorPushed};
 ghost use Rattle.file_format.specs.Words.{words};
 ghost use Rattle.file_format.specs.Books.{validator};
-ghost use Rattle.file_format.specs.PlacesLaws.{Good};
 ghost use Rattle.file_records.specs.Scalars.{scalars_at};
 ghost use Rattle.file_records.specs.Lists.{records_from, Readable};
 ghost use Rattle.table_stores.specs.Stored.{Stored, ValidatorsStored, Fits, BooksStored};
 
-use books_file::{consolidations_place, deposits_place, partials_place};
+use books_file::{BooksFile, lists_of};
 use file_bytes::put_field;
+use file_records::numbers_at;
 use file_records::record::FileRecord;
-use file_words::{flag_at, number_at};
+use file_words::{behind, flag_at};
 use primitives::{Scalars, ValidatorIndex};
 use records::queues::{PendingBalanceDeposit, PendingConsolidation, PendingPartialWithdrawal};
 use records::registry::{credentials_place, put_row};
 
-// ---- a validator at word k of the file, straight into the tables, behind the first n
+// ---- the validator at the front of what is left of a file, straight into the tables, behind the first n
 
-fn store_words(file: &[u8], k: usize, validators: &mut [u64], n: usize)
-    requires k_bound { k ≤ 2 ^ 39 }
-    requires well_formed { validator.ok (drop k (words file.now)) ≡ true }
+fn store_words(rest: &[u8], validators: &mut [u64], n: usize)
+    requires well_formed { validator.ok (words rest.now) ≡ true }
     requires n_fits { n < validators_fit validators.old }
-    ensures { validators.new
-        ≡ put_validator validators.old n (validator.value (drop k (words file.now))) }
+    ensures { validators.new ≡ put_validator validators.old n (validator.value (words rest.now)) }
 {
-    let slashed = flag_at(file, k + 27) as u64;
-    let effective_balance = number_at(file, k + 28);
-    let activation_eligibility_epoch = number_at(file, k + 31);
-    let activation_epoch = number_at(file, k + 34);
-    let exit_epoch = number_at(file, k + 37);
-    let withdrawable_epoch = number_at(file, k + 40);
-    let balance = number_at(file, k + 43);
+    let slashed = flag_at(behind(rest, 27)) as u64;
+    let [
+        effective_balance,
+        activation_eligibility_epoch,
+        activation_epoch,
+        exit_epoch,
+        withdrawable_epoch,
+        balance,
+    ] = numbers_at::<6>(behind(rest, 28));
     put_row(
         validators,
         n,
@@ -53,49 +53,52 @@ fn store_words(file: &[u8], k: usize, validators: &mut [u64], n: usize)
     );
 }
 
-fn store_validator(file: &[u8], k: usize, identities: &mut [u8], validators: &mut [u64], n: usize)
-    requires k_bound { k ≤ 2 ^ 39 }
-    requires well_formed { validator.ok (drop k (words file.now)) ≡ true }
+fn store_validator(rest: &[u8], identities: &mut [u8], validators: &mut [u64], n: usize)
+    requires well_formed { validator.ok (words rest.now) ≡ true }
     requires n_fits { (n < identities_fit identities.old) × (n < validators_fit validators.old) }
-    ensures { ValidatorPushed n (validator.value (drop k (words file.now)))
+    ensures { ValidatorPushed n (validator.value (words rest.now))
         identities.old validators.old identities.new validators.new }
 {
     let credentials = credentials_place(identities, ValidatorIndex(n));
-    put_field(file, k, &mut identities[48 * n..48 * n + 48]);
-    put_field(file, k + 16, &mut identities[credentials..credentials + 32]);
-    store_words(file, k, validators, n);
+    put_field(rest, &mut identities[48 * n..48 * n + 48]);
+    put_field(
+        behind(rest, 16),
+        &mut identities[credentials..credentials + 32],
+    );
+    store_words(rest, validators, n);
 }
 
 // ---- lists
 
-// n validators from word 86 on, as the first n of the tables.
-fn store_validators(file: &[u8], n: usize, identities: &mut [u8], validators: &mut [u64])
-    requires readable { Readable validator 46 86 n (words file.now) }
+// The first n validators of a list, as the first n of the tables.
+fn store_validators(list: &[u8], n: usize, identities: &mut [u8], validators: &mut [u64])
+    requires readable { Readable validator 46 n (words list.now) }
     requires n_fits { (n ≤ identities_fit identities.old) × (n ≤ validators_fit validators.old) }
-    ensures { ValidatorsStored (words file.now) n identities.old validators.old
+    ensures { ValidatorsStored (words list.now) n identities.old validators.old
         identities.new validators.new }
 {
     for i in 0..n {
-        store_validator(file, 86 + i * 46, identities, validators, i);
+        store_validator(behind(list, i * 46), identities, validators, i);
     }
 }
 
-// n records from word k on, as the first n of the table.
-fn store_records<R: FileRecord>(file: &[u8], k: usize, n: usize, table: &mut [u64])
-    requires readable { Readable R.format R.WORDS k n (words file.now) }
+// The first n records of a list, as the first n of the table.
+fn store_records<R: FileRecord>(list: &[u8], n: usize, table: &mut [u64])
+    requires readable { Readable R.format R.WORDS n (words list.now) }
     requires n_fits { n ≤ length table.old / R.width }
     ensures { Stored R.decode R.width n
-        (records_from R.format R.WORDS k n (words file.now))
+        (records_from R.format R.WORDS n (words list.now))
         table.old table.new }
 {
     for i in 0..n {
-        R::read(file, k + i * R::WORDS).push(table, i);
+        R::read(behind(list, i * R::WORDS)).push(table, i);
     }
 }
 
 // The lists of a file, with its scalars.
+// The tables stay apart, as C lends them: the call writes all five.
 pub fn store_books(
-    file: &[u8],
+    file: BooksFile<'_>,
     scalars: Scalars,
     identities: &mut [u8],
     validators: &mut [u64],
@@ -103,33 +106,22 @@ pub fn store_books(
     partials: &mut [u64],
     consolidations: &mut [u64],
 )
-    requires good { Good (words file.now) }
-    requires scalars_read { scalars ≡ scalars_at (words file.now) }
+    requires scalars_read { scalars ≡ scalars_at (words file.bytes.now) }
     requires fits { Fits scalars
         (tables identities.old validators.old deposits.old partials.old consolidations.old) }
-    ensures { BooksStored (words file.now) scalars
+    ensures { BooksStored (words file.entry.bytes.now) scalars
         (tables identities.old validators.old deposits.old
         partials.old consolidations.old)
         (tables identities.new validators.new deposits.new
         partials.new consolidations.new) }
 {
-    store_validators(file, scalars.validators, identities, validators);
-    store_records::<PendingBalanceDeposit>(
-        file,
-        deposits_place(file) + 1,
-        scalars.deposits,
-        deposits,
-    );
-    store_records::<PendingPartialWithdrawal>(
-        file,
-        partials_place(file) + 1,
-        scalars.partials,
-        partials,
-    );
-    store_records::<PendingConsolidation>(
-        file,
-        consolidations_place(file) + 1,
-        scalars.consolidations,
-        consolidations,
-    );
+    let lists = lists_of(file.bytes);
+    let records = behind(lists.validators, 1);
+    store_validators(records, scalars.validators, identities, validators);
+    let records = behind(lists.deposits, 1);
+    store_records::<PendingBalanceDeposit>(records, scalars.deposits, deposits);
+    let records = behind(lists.partials, 1);
+    store_records::<PendingPartialWithdrawal>(records, scalars.partials, partials);
+    let records = behind(lists.consolidations, 1);
+    store_records::<PendingConsolidation>(records, scalars.consolidations, consolidations);
 }

@@ -1,5 +1,8 @@
 // What the program `books` prints, put at the start of a lent buffer: the table of a run, or the number of a refusal.
 
+// Digits stay put by hand, into a lent buffer at a place: there is no heap here, and std states what `write!` writes
+// only for a `String`.
+
 #![tactic(auto)]
 
 ghost use Rattle.std.specs.Prelude.{◌≡◌, ◌+◌, ◌*◌, ◌%◌, ◌≤◌, ◌<◌, length};

@@ -1,6 +1,7 @@
 -- A loop that fills an array of n elements: element k of it is g k.
 use Rattle.std.specs.Prelude.{◌≡◌, List, ℕ, ◌+◌, ◌≤◌, ◌<◌, length, get_or, set}
-use Rattle.std.proofs.Common.{sym, ◌∙◌, not-suc-le-zero, arith, below_more, length-set, get_or-set_same, get_or-set_other}
+use Rattle.std.proofs.Common.{sym, ◌∙◌, not-suc-le-zero, arith, below_more, length-set, get_or-set_same}
+use Rattle.std.proofs.Common.{get_or-set_other}
 use Rattle.tables.specs.Rows.{rows, rows_ext, rows_getD}
 
 -- g 0, g 1, .., g (j - 1) stand in `to`

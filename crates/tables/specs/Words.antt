@@ -1,6 +1,8 @@
 -- The words of a table: stores into one row, and the words that stay as they were.
-use Rattle.std.specs.Prelude.{◌≡◌, refl, Bool, true, false, List, ℕ, ◌+◌, ◌-◌, ◌≤◌, ◌<◌, ltb, length, get_or, set, take, drop}
-use Rattle.std.proofs.Common.{sym, ◌∙◌, arith, length-set, length-take, length-drop, get_or-set_other, ext_get_or, get_or-take, get_or-drop, ltb-true, ltb-false}
+use Rattle.std.specs.Prelude.{◌≡◌, refl, Bool, true, false, List, ℕ, ◌+◌, ◌-◌, ◌≤◌, ◌<◌, ltb, length, get_or, set, take}
+use Rattle.std.specs.Prelude.{drop}
+use Rattle.std.proofs.Common.{sym, ◌∙◌, arith, length-set, length-take, length-drop, get_or-set_other, ext_get_or}
+use Rattle.std.proofs.Common.{get_or-take, get_or-drop, ltb-true, ltb-false}
 use Rattle.std.proofs.Math.ListN.{get_or-eq_default}
 
 -- l and m agree outside the words from lo to hi

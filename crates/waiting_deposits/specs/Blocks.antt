@@ -1,7 +1,8 @@
 -- A table of deposits, read in blocks of sixteen, and the walk over its blocks.
 use Rattle.std.specs.Prelude.{◌≡◌, Bool, set, take, drop, ltb}
 use Rattle.std.proofs.Math.Path.{refl, ap}
-use Rattle.std.proofs.Common.{sym, ◌∙◌, not-suc-le-zero, le_of_suc-le-suc, add-one, take-append-drop, length-append, take-suc-set, drop-drop}
+use Rattle.std.proofs.Common.{sym, ◌∙◌, not-suc-le-zero, le_of_suc-le-suc, add-one, take-append-drop, length-append}
+use Rattle.std.proofs.Common.{take-suc-set, drop-drop}
 use Rattle.std.proofs.Math.Bool.{true, false}
 use mathlib.Core.List.{List, [], ◌∷◌, ◌++◌, map}
 use Prim.Native.Nat.{ℕ, zero, suc, ◌+◌, ◌-◌, ◌<◌, ◌≤◌, min}
@@ -120,9 +121,6 @@ pub record Walking (available m : ℕ) (g : ℕ → rule.PendingBalanceDeposit) 
   pub rest :
       available - deposit_amounts (affordable available 0 (rows m g))
       ≡ left - deposit_amounts (affordable left 0 (drop next (rows m g)))
-
-pub walking_none : (available m : ℕ) (g : ℕ → rule.PendingBalanceDeposit) → Walking available m g 0 available
-walking_none available m g = record { reached = omega arith; count = omega arith; rest = refl }
 
 pub take_rows : {A : Type 0} (c n : ℕ) (g : ℕ → A) → c ≤ n → take c (rows n g) ≡ rows c g
 unfolding rows

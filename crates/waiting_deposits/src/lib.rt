@@ -62,6 +62,7 @@ pub fn affordable_of(
 // ---- a table of deposits
 
 // Up to sixteen deposits: the first `count` of the array. An array, since what calls `affordable_of` lends no records.
+// The array stays beside a count: there is no heap, and a block is made before it is looked at.
 #[derive(Clone, Copy)]
 pub struct DepositBlock {
     pub deposits: [PendingBalanceDeposit; 16],

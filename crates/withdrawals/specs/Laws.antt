@@ -35,14 +35,6 @@ use Rattle.expected_withdrawals.specs.Expected.{handed_list}
 use Rattle.expected_withdrawals.specs.Handed.{length_handed, past}
 use Rattle.withdrawals.specs.Payment.{Paid, index_below}
 
--- what owning a struct tells of a field that is an array of structs stands at `map` over the list
-pub unmapped : (X Y : Type 0) (f : X → Y) (l : List X) (n : ℕ) → length (map f l) ≡ n → length l ≡ n
-unmapped X Y f l n e = sym (go l) ∙ e
-  where
-    go : (l : List X) → length (map f l) ≡ length l
-    go [] = refl
-    go (x ∷ xs) = ap suc (go xs)
-
 -- ---- handed lists
 
 pub getD_handed : (list : List Withdrawal) (n k : ℕ) → k < n → k < length list
@@ -162,9 +154,6 @@ pub record Paying (n : ℕ) (ws : List rule.Withdrawal) (old new : List ℕ) (k 
   pub validators : (ids : List ℕ)
       → pay_withdrawals (drop k ws) (rows n (validator_at ids new)) ≡ pay_withdrawals ws (rows n (validator_at ids old))
   pub past : validators_past n new ≡ validators_past n old
-
-pub paying_none : (n : ℕ) (ws : List rule.Withdrawal) (old : List ℕ) → Paying n ws old old 0
-paying_none n ws old = record { size = refl; validators = λ ids. refl; past = refl }
 
 module _ {n : ℕ} {ws : List rule.Withdrawal} {old new : List ℕ} {k : ℕ} (p : Paying n ws old new k) where
   pub paying_more : (w : rule.Withdrawal) → drop k ws ≡ w ∷ drop (k + 1) ws → w.validator_index < n
@@ -351,10 +340,10 @@ module _ (settings : Settings) (s : Scalars) (ids vs ds ps cs : List ℕ) (ws : 
           (with_pending_partial_withdrawals x (with_validators y b)))
           queue (paid.validators ids)
 
-      pub stepped : {r : Scalars} → r ≡ scalars.with_next_withdrawal s index cursor (s.partials - gone)
-          → Stepped (process_withdrawals (settings_of settings) ws) s
-          (tables ids vs ds ps cs) (tables ids us ds qs cs) r
-      stepped z = rw z record {
+      pub stepped : Stepped (process_withdrawals (settings_of settings) ws) s
+          (tables ids vs ds ps cs) (tables ids us ds qs cs)
+          (scalars.with_next_withdrawal s index cursor (s.partials - gone))
+      stepped = record {
         books = whole;
         beyond = record {
           identities = refl;

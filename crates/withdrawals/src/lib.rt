@@ -8,7 +8,7 @@ ghost use Rattle.rules.specs.Types as rule;
 ghost use Rattle.rules.specs.BlockProcessing.{same_withdrawals, withdrawals_refusal};
 ghost use Rattle.rules.specs.BlockProcessing.{get_expected_withdrawals, next_index, next_validator_index};
 ghost use Rattle.rules.specs.BlockProcessing.{process_withdrawals};
-ghost use Rattle.rules.specs.Acceptance.{sound_settings, sound_books};
+ghost use Rattle.rules.specs.Acceptance.{sound_books};
 ghost use Rattle.rules.specs.Calls.{enough_room};
 ghost use Rattle.rule_laws.specs.Withdrawals.{withdrawal_in};
 ghost use Rattle.primitives.specs.Answers.{answer_number};
@@ -21,10 +21,13 @@ ghost use Rattle.withdrawals.specs.Payment.{Paid, index_below};
 
 use expected_withdrawals::{ExpectedWithdrawals, Withdrawal};
 use primitives::answers::Refusal;
+use primitives::sound::SoundSettings;
 use primitives::{Scalars, Settings, ValidatorIndex, WithdrawalIndex};
 use records::queues::PendingPartialWithdrawal;
 
 // A handed list stays sixteen records and a count: the exported call hands it so, and the count may be above sixteen.
+// The tables stay apart: the rule writes some and only reads the others, as C lends them. `same_withdrawals` stays a
+// function: it compares the counts first.
 
 // ---- the comparison
 
@@ -115,7 +118,7 @@ pub fn next_validator_index(
 
 // The rule, on a list that is the expected one.
 pub fn process_withdrawals(
-    settings: Settings,
+    sound: SoundSettings,
     scalars: Scalars,
     identities: &[u8],
     validators: &mut [u64],
@@ -126,17 +129,16 @@ pub fn process_withdrawals(
     n: usize,
     expected: ExpectedWithdrawals,
 ) -> Scalars
-    requires settings_value { sound_settings (settings_of settings) ≡ true }
-    requires consolidations_value { enough_room (settings_of settings)
+    requires room { enough_room (settings_of sound.settings)
         (room_of (tables identities.now validators.old deposits.now partials.old consolidations.now)) ≡ true }
-    requires consolidations_value_2 { sound_books (settings_of settings) (books_of scalars
+    requires books_are_sound { sound_books (settings_of sound.settings) (books_of scalars
         (tables identities.now validators.old deposits.now partials.old consolidations.now)) ≡ true }
-    requires expected_value { expected ≡ expected_of (settings_of settings) (books_of scalars
+    requires expected_value { expected ≡ expected_of (settings_of sound.settings) (books_of scalars
         (tables identities.now validators.old deposits.now partials.old consolidations.now)) }
-    requires consolidations_value_3 { same_withdrawals (handed_list list n)
-        (get_expected_withdrawals (settings_of settings) (books_of scalars
+    requires same { same_withdrawals (handed_list list n)
+        (get_expected_withdrawals (settings_of sound.settings) (books_of scalars
         (tables identities.now validators.old deposits.now partials.old consolidations.now))) ≡ true }
-    ensures { Stepped (process_withdrawals (settings_of settings) (handed_list list n)) scalars
+    ensures { Stepped (process_withdrawals (settings_of sound.settings) (handed_list list n)) scalars
         (tables identities.now validators.old deposits.now
         partials.old consolidations.now)
         (tables identities.now validators.new deposits.now
@@ -148,6 +150,11 @@ pub fn process_withdrawals(
     pay_withdrawals(validators, scalars.validators, list, n);
     remove_partials(partials, gone, left);
     let index = next_index(scalars, list, n);
-    let cursor = next_validator_index(settings, scalars, list, n);
-    scalars.with_next_withdrawal(index, cursor, left)
+    let cursor = next_validator_index(sound.settings, scalars, list, n);
+    Scalars {
+        next_withdrawal_index: index,
+        next_withdrawal_validator_index: cursor,
+        partials: left,
+        ..scalars
+    }
 }

@@ -29,9 +29,6 @@ returns-then-not-enough_room c =
     ∙ c.if-not-enough_room.true) in
     record { number_value = e; held_value = total_refused _ _ _ e (λ z. omega arith) }
 
-pub books_held-requires : goal.books_held-requires
-books_held-requires c = sym c.enough_room.ensures ∙ c.if-not-enough_room.false
-
 pub returns : goal.returns
 returns c =
     let b = c.args.books.now in

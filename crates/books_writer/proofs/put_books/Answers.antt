@@ -6,6 +6,7 @@ use Rattle.books_writer.proofs.put_books.Goals as goal
 
 pub returns-clause-file : goal.returns-clause-file
 returns-clause-file c =
-    books_put _ _ (lent_tables c.args.books.now) c.requires.ready _ _ _ _ _ _ _ c.requires.scalars_in_bounds c.put_front.ensures.front
+    books_put _ _ (lent_tables c.args.books.now) c.requires.ready _ _ _ _ _ _ _ c.requires.scalars_in_bounds
+    c.put_front.ensures.front
     c.put_validators.ensures.list c.put_records.ensures c.put_records-2.ensures
     c.put_records-3.ensures c.put_end.ensures

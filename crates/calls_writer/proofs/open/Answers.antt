@@ -11,14 +11,8 @@ use Rattle.calls_writer.proofs.open.Goals as goal
 pub returns-then-out-size : goal.returns-then-out-size
 returns-then-out-size c = search (opened_long, rules)
 
-pub slice_bounds-calls_file_ok-end : goal.slice_bounds-calls_file_ok-end
-slice_bounds-calls_file_ok-end c = search (part_length, rules)
-
 pub returns-then-not-calls_file_ok : goal.returns-then-not-calls_file_ok
 returns-then-not-calls_file_ok c = search (opened_broken, rules)
-
-pub slice_bounds-calls_count-end : goal.slice_bounds-calls_count-end
-slice_bounds-calls_count-end c = search (part_length, rules)
 
 pub returns-then-count-ge9999 : goal.returns-then-count-ge9999
 returns-then-count-ge9999 c =

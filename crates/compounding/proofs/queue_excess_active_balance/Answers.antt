@@ -39,7 +39,7 @@ returns c =
       read,
       c.if-balance-least.false,
     ) in
-    rw c.with_deposits.ensures record {
+    record {
       by_index = queued S a.i.0 a.scalars a.validators.now a.deposits.now
           c.requires.i_lt_validators.0 high _ _
           c.set_balance.ensures

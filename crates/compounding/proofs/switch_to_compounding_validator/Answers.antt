@@ -28,7 +28,11 @@ queue_excess_active_balance-requires c =
     let entries =
     entries_read (settings_of a.settings) a.i.0 a.scalars a.identities.now a.validators.now
     a.deposits.now p.i_lt_validators.0 compounds in
-    record { i_lt_validators = (p.i_lt_validators.0, p.i_lt_validators.2); i_bound = rw (← entries [] []) (p.by_index [] []) }
+    record {
+      i_lt_validators = (p.i_lt_validators.0, p.i_lt_validators.2);
+      i_bound = rw (← entries [] [])
+          (p.by_index [] []);
+    }
 
 pub returns : goal.returns
 returns c =

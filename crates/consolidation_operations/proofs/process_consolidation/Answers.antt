@@ -3,15 +3,17 @@ use Rattle.primitives.specs.Answers.{refusal_not_0}
 use Prim.Native.Nat.{◌<◌}
 use native.Mathlib.Omega.{arith}
 use Rattle.rules.specs.Calls.{own_refusal, result, consolidation}
-use Rattle.rule_laws.specs.Accepted.{settings_sound_so}
 use Rattle.primitives.specs.Settings.{settings_of}
 use Rattle.records.specs.Books.{tables}
-use Rattle.acceptance.specs.Handed.{facts}
+use Rattle.acceptance.specs.Handed.{accepted, facts}
 use Rattle.helpers.specs.Ready.{registry_ready, accounts_ready, identities_ready}
 use Rattle.call_answers.specs.Called.{own_refused}
 use Rattle.call_answers.specs.Answers.{judged_called, judged_as}
 use Rattle.consolidation_operations.specs.Consolidations.{consolidation_allowed}
 use Rattle.consolidation_operations.proofs.process_consolidation.Goals as goal
+
+pub invariant_of-sound : goal.invariant_of-sound
+invariant_of-sound c = record { sound = (accepted _ _ _ c.requires).settings }
 
 pub get_consolidation_churn_limit-churn-requires : goal.get_consolidation_churn_limit-churn-requires
 get_consolidation_churn_limit-churn-requires c =
@@ -21,7 +23,6 @@ get_consolidation_churn_limit-churn-requires c =
     let f = facts (settings_of c.args.settings) c.args.scalars held c.requires in
     let S = settings_of c.args.settings in
     record {
-      settings_are_sound = settings_sound_so S f.settings;
       registry = registry_ready S c.args.scalars held f.settings f.room f.books;
     }
 
@@ -71,7 +72,6 @@ consolidation_within_bound-requires c =
       churn a.identities.now a.deposits.now a.partials.now a.consolidations.now,
     ) in
     record {
-      settings_are_sound = settings_sound_so S f.settings;
       registry = registry_ready S a.scalars held f.settings f.room f.books;
       accounts = accounts_ready S a.scalars held f.settings f.room f.books;
       churn_is_some = (some, churn);

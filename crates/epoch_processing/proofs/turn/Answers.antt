@@ -32,13 +32,14 @@ module _ (c : After-process_pending_balance_deposits-credited) where
         consolidations = refl;
       }
 
-  sound : SoundBooks (settings_of c.args.settings)
+  sound : SoundBooks (settings_of c.args.sound.settings)
       (books_of c.process_pending_balance_deposits-credited.result credited)
   sound =
       let r = c.requires in
       let f = c.process_pending_balance_deposits-credited in
-      books_sound (settings_of c.args.settings) _
-      (credited_sound (settings_of c.args.settings) c.args.scalars entry r.settings_are_sound r.room r.books_are_sound
+      books_sound (settings_of c.args.sound.settings) _
+      (credited_sound (settings_of c.args.sound.settings) c.args.scalars entry c.args.sound.sound r.room
+      r.books_are_sound
       r.queue_fits f.result credited f.ensures credited_sizes)
 
 -- and after the consolidations
@@ -54,25 +55,25 @@ process_pending_consolidations-consolidated-requires c =
     let a = c.args in
     let r = c.requires in
     let f = c.process_pending_balance_deposits-credited in
-    let S = settings_of a.settings in
+    let S = settings_of a.sound.settings in
     record {
-      room = credited_room S a.scalars (entry d) r.settings_are_sound r.room r.books_are_sound r.queue_fits
+      room = credited_room S a.scalars (entry d) c.args.sound.sound r.room r.books_are_sound r.queue_fits
           f.result (credited d) f.ensures (credited_sizes d);
-      books_are_sound = credited_sound S a.scalars (entry d) r.settings_are_sound r.room r.books_are_sound
+      books_are_sound = credited_sound S a.scalars (entry d) c.args.sound.sound r.room r.books_are_sound
           r.queue_fits f.result (credited d) f.ensures (credited_sizes d);
-      queue_fits = credited_fits S a.scalars (entry d) r.settings_are_sound r.room r.books_are_sound r.queue_fits
+      queue_fits = credited_fits S a.scalars (entry d) c.args.sound.sound r.room r.books_are_sound r.queue_fits
           f.result (credited d) f.ensures (credited_sizes d);
     }
 
-pub process_effective_balance_updates-updated-requires-clause-updates_ready : goal.process_effective_balance_updates-updated-requires-clause-updates_ready
-process_effective_balance_updates-updated-requires-clause-updates_ready c =
-    let at = goal.at.process_effective_balance_updates-updated-requires-clause-updates_ready c in
+pub process_effective_balance_updates-updated-requires : goal.process_effective_balance_updates-updated-requires
+process_effective_balance_updates-updated-requires c =
+    let at = goal.at.process_effective_balance_updates-updated-requires c in
     let d = at.After-process_pending_balance_deposits-credited in
     let a = c.args in
     let r = c.requires in
     let f = c.process_pending_balance_deposits-credited in
     let g = c.process_pending_consolidations-consolidated in
-    consolidated_ready (settings_of a.settings) a.scalars (entry d) r.settings_are_sound r.room r.books_are_sound
+    consolidated_ready (settings_of a.sound.settings) a.scalars (entry d) c.args.sound.sound r.room r.books_are_sound
     r.queue_fits f.result (credited d) f.ensures (credited_sizes d) g.result
     (consolidated at.After-process_pending_consolidations-consolidated) g.ensures
     (record {
@@ -93,7 +94,7 @@ overflow_add-epoch c =
     let h = c.process_effective_balance_updates-updated in
     omega (
       arith,
-      epoch_kept (settings_of a.settings) a.scalars f.result g.result h.result (entry d) (credited d)
+      epoch_kept (settings_of a.sound.settings) a.scalars f.result g.result h.result (entry d) (credited d)
           (consolidated at.After-process_pending_consolidations-consolidated) _ (sound d)
           f.ensures refl g.ensures (h.ensures.stepped _ _ _) h.ensures.scalars_kept,
       c.requires.epoch_fits,
@@ -107,7 +108,6 @@ returns c =
     let f = c.process_pending_balance_deposits-credited in
     let g = c.process_pending_consolidations-consolidated in
     let h = c.process_effective_balance_updates-updated in
-    rw c.with_epoch.ensures
-    (turned (settings_of a.settings) a.scalars f.result g.result h.result (entry d) (credited d)
+    turned (settings_of a.sound.settings) a.scalars f.result g.result h.result (entry d) (credited d)
     (consolidated at.After-process_pending_consolidations-consolidated) _ (sound d)
-    f.ensures refl g.ensures (h.ensures.stepped _ _ _) h.ensures.scalars_kept)
+    f.ensures refl g.ensures (h.ensures.stepped _ _ _) h.ensures.scalars_kept

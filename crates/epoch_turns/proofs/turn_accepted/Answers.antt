@@ -2,28 +2,23 @@ use mathlib.Core.Path.{sym, ◌∙◌}
 use native.Mathlib.Omega.{arith}
 use borrow.Author.Tests.{leb-true}
 use Rattle.acceptance.specs.Handed.{accepted}
-use Rattle.epoch_turns.specs.Epoch.{registry_known, turn_over, turn_late, turn_done}
-use Rattle.epoch_turns.specs.Epoch.{registry_there, consolidations_there, queue_there}
-use Rattle.epoch_turns.specs.Epoch.{deposits_there, allowance_there}
+use Rattle.epoch_turns.specs.Epoch.{registry_known, turn_known, allowance_known, turn_over, turn_late, turn_done}
 use Rattle.epoch_turns.proofs.turn_accepted.Goals as goal
 
+pub invariant_of-sound : goal.invariant_of-sound
+invariant_of-sound c = record { sound = (accepted _ _ _ c.requires).settings }
+
 pub get_activation_exit_churn_limit-allowance-requires : goal.get_activation_exit_churn_limit-allowance-requires
-get_activation_exit_churn_limit-allowance-requires c =
-    let h = c.requires in
-    record { settings_are_sound = (accepted _ _ _ h).settings; registry = registry_known _ _ _ h }
+get_activation_exit_churn_limit-allowance-requires c = record { registry = registry_known _ _ _ c.requires }
 
 pub turn_fits-requires : goal.turn_fits-requires
 turn_fits-requires c =
     let a = c.args in
-    let h = c.requires in
     record {
-      registry_ready = registry_there _ _ _ h;
-      consolidations_ready = consolidations_there _ _ _ h;
-      queue_ready = queue_there _ _ _ h;
-      deposits_ready = deposits_there _ _ _ h;
-      allowance_ready = allowance_there _ _ _ h;
-      allowance_is = λ ps. c.get_activation_exit_churn_limit-allowance.ensures a.identities.now a.deposits.now ps
-          a.consolidations.now;
+      ready = turn_known _ _ c.requires;
+      allowance_ready = allowance_known _ _ _ c.requires;
+      allowance_is = λ ps.
+          c.get_activation_exit_churn_limit-allowance.ensures a.identities.now a.deposits.now ps a.consolidations.now;
     }
 
 pub returns-then-not-turn_fits : goal.returns-then-not-turn_fits
@@ -40,13 +35,12 @@ turn-after-requires c =
     let a = c.args in
     let h = accepted _ _ _ c.requires in
     record {
-      settings_are_sound = h.settings;
       room = h.room;
       books_are_sound = h.books;
       allowance_is_limit = c.get_activation_exit_churn_limit-allowance.ensures a.identities.now a.deposits.now
           a.partials.now a.consolidations.now;
       epoch_fits = omega (arith, c.if-scalars-ge-BOUND.false);
-      queue_fits = leb-true _ _ (sym (c.turn_fits.ensures a.partials.now) ∙ c.if-not-turn_fits.false);
+      queue_fits = leb-true _ _ (sym (c.turn_fits.ensures c.args.partials.now) ∙ c.if-not-turn_fits.false);
     }
 
 pub returns : goal.returns

@@ -10,7 +10,7 @@ use Rattle.exit_operations.proofs.exit_within_bound.Goals as goal
 
 pub withdrawable_epoch-withdrawable-requires : goal.withdrawable_epoch-withdrawable-requires
 withdrawable_epoch-withdrawable-requires c =
-    omega (arith, c.assign_exit-a.ensures.far_off, (settings_sound _ c.requires.settings_are_sound).delay)
+    omega (arith, c.assign_exit-a.ensures.far_off, (settings_sound _ c.args.sound.sound).delay)
 
 pub returns-then-withdrawable-gt-BOUND : goal.returns-then-withdrawable-gt-BOUND
 returns-then-withdrawable-gt-BOUND c =
@@ -18,7 +18,7 @@ returns-then-withdrawable-gt-BOUND c =
     let a = c.args in
     let t = tables ids a.validators.now ds ps cs in
     judged_refused
-    (exit_over (settings_of a.settings) (settings_sound _ c.requires.settings_are_sound) a.scalars t k a.i.0
+    (exit_over (settings_of a.sound.settings) (settings_sound _ c.args.sound.sound) a.scalars t k a.i.0
     c.requires.not_begun.0 c.requires.not_begun.1 (plain_assignment c.assign_exit-a.result)
     (c.assign_exit-a.ensures.assigned ids ds ps cs)
     (omega (arith, c.withdrawable_epoch-withdrawable.ensures, c.if-withdrawable-gt-BOUND.true)))
@@ -31,8 +31,8 @@ returns c =
     let t = tables ids a.validators.now ds ps cs in
     let given = c.assign_exit-a.ensures.assigned ids ds ps cs in
     judged_done
-    (exit_within (settings_of a.settings) (settings_sound _ c.requires.settings_are_sound) a.scalars t k a.i.0
+    (exit_within (settings_of a.sound.settings) (settings_sound _ c.args.sound.sound) a.scalars t k a.i.0
     c.requires.not_begun.0 c.requires.not_begun.1 (plain_assignment c.assign_exit-a.result) given
     (omega (arith, c.withdrawable_epoch-withdrawable.ensures, c.if-withdrawable-gt-BOUND.false)))
-    (exit_whole (settings_of a.settings) a.i.0 a.scalars t c.requires.not_begun.0 c.requires.not_begun.1
+    (exit_whole (settings_of a.sound.settings) a.i.0 a.scalars t c.requires.not_begun.0 c.requires.not_begun.1
     given (c.begin_exit-begun.ensures ids ds ps cs))

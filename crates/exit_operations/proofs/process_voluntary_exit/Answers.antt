@@ -2,15 +2,17 @@ use Rattle.std.proofs.Common.{◌≡◌, refl, sym, Err, rules}
 use Rattle.primitives.specs.Answers.{refusal_not_0}
 use Rattle.rules.specs.BlockProcessing.{process_voluntary_exit}
 use Rattle.rules.specs.Calls.{own_refusal, result, voluntary_exit}
-use Rattle.rule_laws.specs.Accepted.{settings_sound_so}
 use Rattle.primitives.specs.Settings.{settings_of}
 use Rattle.records.specs.Books.{tables}
-use Rattle.acceptance.specs.Handed.{facts}
+use Rattle.acceptance.specs.Handed.{accepted, facts}
 use Rattle.helpers.specs.Ready.{registry_ready, accounts_ready, partials_ready, identities_ready}
 use Rattle.call_answers.specs.Called.{own_refused}
 use Rattle.call_answers.specs.Answers.{judged_called, judged_as}
 use Rattle.exit_operations.specs.Exits.{exit_allowed}
 use Rattle.exit_operations.proofs.process_voluntary_exit.Goals as goal
+
+pub invariant_of-sound : goal.invariant_of-sound
+invariant_of-sound c = record { sound = (accepted _ _ _ c.requires).settings }
 
 pub voluntary_exit_refusal-requires : goal.voluntary_exit_refusal-requires
 voluntary_exit_refusal-requires c =
@@ -21,7 +23,6 @@ voluntary_exit_refusal-requires c =
     let S = settings_of c.args.settings in
     let s = c.args.scalars in
     record {
-      settings_are_sound = settings_sound_so S f.settings;
       identities_room = identities_ready S s held f.settings f.room f.books;
       registry = registry_ready S s held f.settings f.room f.books;
       accounts = accounts_ready S s held f.settings f.room f.books;
@@ -43,7 +44,6 @@ exit_within_bound-requires c =
     let a = c.args in
     let S = settings_of a.settings in
     record {
-      settings_are_sound = settings_sound_so S f.settings;
       registry = registry_ready S a.scalars held f.settings f.room f.books;
       accounts = accounts_ready S a.scalars held f.settings f.room f.books;
       not_begun =

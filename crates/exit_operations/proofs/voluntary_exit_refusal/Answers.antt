@@ -16,14 +16,14 @@ use Rattle.exit_operations.proofs.voluntary_exit_refusal.Goals as goal
 pub returns-then-scalars-i : goal.returns-then-scalars-i
 returns-then-scalars-i c =
     let a = c.args in
-    exit_unknown (settings_of a.settings) a.books.now.scalars (lent_tables a.books.now)
+    exit_unknown (settings_of a.sound.settings) a.books.now.scalars (lent_tables a.books.now)
     a.i.0 a.epoch.0 a.valid c.if-scalars-i.true
 
 pub returns-then-not-is_active_validator : goal.returns-then-not-is_active_validator
 unfolding exit_tests
 returns-then-not-is_active_validator c =
     let a = c.args in
-    exit_known (settings_of a.settings) a.books.now.scalars (lent_tables a.books.now)
+    exit_known (settings_of a.sound.settings) a.books.now.scalars (lent_tables a.books.now)
     a.i.0 a.epoch.0 a.valid (plain_validator c.validator_at-v.result) _ c.if-scalars-i.false
     c.validator_at-v.ensures refl
     (fails _ _ (ap not (sym c.is_active_validator.ensures ∙ c.if-not-is_active_validator.true)))
@@ -32,7 +32,7 @@ pub returns-then-v : goal.returns-then-v
 unfolding exit_tests
 returns-then-v c =
     let a = c.args in
-    exit_known (settings_of a.settings) a.books.now.scalars (lent_tables a.books.now)
+    exit_known (settings_of a.sound.settings) a.books.now.scalars (lent_tables a.books.now)
     a.i.0 a.epoch.0 a.valid (plain_validator c.validator_at-v.result) _ c.if-scalars-i.false
     c.validator_at-v.ensures refl
     (passes _ _ (ap not (sym c.is_active_validator.ensures ∙ c.if-not-is_active_validator.false))
@@ -42,7 +42,7 @@ pub returns-then-current_epoch-epoch : goal.returns-then-current_epoch-epoch
 unfolding exit_tests
 returns-then-current_epoch-epoch c =
     let a = c.args in
-    exit_known (settings_of a.settings) a.books.now.scalars (lent_tables a.books.now)
+    exit_known (settings_of a.sound.settings) a.books.now.scalars (lent_tables a.books.now)
     a.i.0 a.epoch.0 a.valid (plain_validator c.validator_at-v.result) _ c.if-scalars-i.false
     c.validator_at-v.ensures refl
     (passes _ _ (ap not (sym c.is_active_validator.ensures ∙ c.if-not-is_active_validator.false))
@@ -58,13 +58,13 @@ overflow_add-v c =
     leb-true v.activation_epoch.0 epoch
     (both (leb v.activation_epoch.0 epoch) (ltb epoch v.exit_epoch.0)
     (sym c.is_active_validator.ensures ∙ c.if-not-is_active_validator.false)).0 in
-    omega (arith, begun, c.requires.accounts.epoch, (settings_sound _ c.requires.settings_are_sound).period)
+    omega (arith, begun, c.requires.accounts.epoch, (settings_sound _ c.args.sound.sound).period)
 
 pub returns-then-current_epoch-v : goal.returns-then-current_epoch-v
 unfolding exit_tests
 returns-then-current_epoch-v c =
     let a = c.args in
-    exit_known (settings_of a.settings) a.books.now.scalars (lent_tables a.books.now)
+    exit_known (settings_of a.sound.settings) a.books.now.scalars (lent_tables a.books.now)
     a.i.0 a.epoch.0 a.valid (plain_validator c.validator_at-v.result) _ c.if-scalars-i.false
     c.validator_at-v.ensures refl
     (passes _ _ (ap not (sym c.is_active_validator.ensures ∙ c.if-not-is_active_validator.false))
@@ -76,7 +76,7 @@ pub returns-then-pending-ne0 : goal.returns-then-pending-ne0
 unfolding exit_tests
 returns-then-pending-ne0 c =
     let a = c.args in
-    exit_known (settings_of a.settings) a.books.now.scalars (lent_tables a.books.now)
+    exit_known (settings_of a.sound.settings) a.books.now.scalars (lent_tables a.books.now)
     a.i.0 a.epoch.0 a.valid (plain_validator c.validator_at-v.result) _ c.if-scalars-i.false
     c.validator_at-v.ensures
     (c.get_pending_balance_to_withdraw-pending.ensures a.books.now.identities.now a.books.now.validators.now
@@ -91,7 +91,7 @@ pub returns-then-not-valid : goal.returns-then-not-valid
 unfolding exit_tests
 returns-then-not-valid c =
     let a = c.args in
-    exit_known (settings_of a.settings) a.books.now.scalars (lent_tables a.books.now)
+    exit_known (settings_of a.sound.settings) a.books.now.scalars (lent_tables a.books.now)
     a.i.0 a.epoch.0 a.valid (plain_validator c.validator_at-v.result) _ c.if-scalars-i.false
     c.validator_at-v.ensures
     (c.get_pending_balance_to_withdraw-pending.ensures a.books.now.identities.now a.books.now.validators.now
@@ -107,7 +107,7 @@ pub returns : goal.returns
 unfolding exit_tests
 returns c =
     let a = c.args in
-    exit_known (settings_of a.settings) a.books.now.scalars (lent_tables a.books.now)
+    exit_known (settings_of a.sound.settings) a.books.now.scalars (lent_tables a.books.now)
     a.i.0 a.epoch.0 a.valid (plain_validator c.validator_at-v.result) _ c.if-scalars-i.false
     c.validator_at-v.ensures
     (c.get_pending_balance_to_withdraw-pending.ensures a.books.now.identities.now a.books.now.validators.now

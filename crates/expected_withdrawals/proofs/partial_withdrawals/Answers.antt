@@ -12,13 +12,15 @@ use Rattle.expected_withdrawals.proofs.partial_withdrawals.Goals.{then-is_partia
 pub returns-then-most-e : goal.returns-then-most-e
 returns-then-most-e c =
     let a = c.args in
-    walked_full a.settings a.books.now.scalars a.books.now.identities.now a.books.now.validators.now a.books.now.partials.now
+    walked_full a.settings a.books.now.scalars a.books.now.identities.now a.books.now.validators.now
+    a.books.now.partials.now
     c.loop-k.invariant c.if-most-e.true a.books.now.deposits.now a.books.now.consolidations.now
 
 pub returns-then-scalars-p : goal.returns-then-scalars-p
 returns-then-scalars-p c =
     let a = c.args in
-    walked_stop a.settings a.books.now.scalars a.books.now.identities.now a.books.now.validators.now a.books.now.partials.now
+    walked_stop a.settings a.books.now.scalars a.books.now.identities.now a.books.now.validators.now
+    a.books.now.partials.now
     c.loop-k.invariant c.loop-k-test.true
     c.if-most-e.false c.entry_at-p.ensures c.if-scalars-p.true a.books.now.deposits.now a.books.now.consolidations.now
 
@@ -39,7 +41,9 @@ loop-k-preserved c =
     let v = validator_at a.books.now.identities.now a.books.now.validators.now p.index in
     let first = a.books.now.scalars.next_withdrawal_index.0 in
     let payable = c.is_partial_payable.ensures a.books.now.identities.now in
-    let more = walking_more a.settings a.books.now.scalars a.books.now.identities.now a.books.now.validators.now a.books.now.partials.now
+    let more =
+    walking_more a.settings a.books.now.scalars a.books.now.identities.now a.books.now.validators.now
+    a.books.now.partials.now
     c.loop-k.invariant c.loop-k-test.true
     c.if-most-e.false c.entry_at-p.ensures
     c.if-scalars-p.false inside in
@@ -55,5 +59,6 @@ loop-k-preserved c =
 pub returns : goal.returns
 returns c =
     let a = c.args in
-    walked_end a.settings a.books.now.scalars a.books.now.identities.now a.books.now.validators.now a.books.now.partials.now
+    walked_end a.settings a.books.now.scalars a.books.now.identities.now a.books.now.validators.now
+    a.books.now.partials.now
     c.loop-k.invariant c.loop-k-test.false a.books.now.deposits.now a.books.now.consolidations.now

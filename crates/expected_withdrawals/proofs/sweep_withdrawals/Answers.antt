@@ -22,7 +22,8 @@ loop-k-preserved c =
     let epoch = a.books.now.scalars.epoch.0 in
     let first = a.books.now.scalars.next_withdrawal_index.0 in
     let amount = c.sweep_amount-amount.ensures in
-    let more = sweeping_more a.settings a.books.now.scalars a.books.now.identities.now a.books.now.validators.now a.listed
+    let more =
+    sweeping_more a.settings a.books.now.scalars a.books.now.identities.now a.books.now.validators.now a.listed
     c.loop-k.invariant c.loop-k-test.true
     c.if-most-e.false c.index_after-i.ensures in
     elim c.if-amount-gt0.branch [

@@ -1,23 +1,17 @@
--- The loop keeps whether every consolidation that is left passes.
-use mathlib.Core.Path.{ap, sym, ◌∙◌}
-use native.Mathlib.Omega.{arith}
-use Rattle.tables.specs.Tests.{every_more, every_stop, every_done}
+use Rattle.std.proofs.Common.{◌*◌, drop, refl, ◌∙◌, arith, rules, tests}
+use Rattle.std.proofs.lemmas.Iterator.{YieldsList-from_range}
+use Rattle.std.proofs.lemmas.Iterator.Search.{all_from_yields_List}
 use Rattle.rules.specs.Acceptance.{consolidation_in}
+use Rattle.file_format.specs.Words.{words}
+use Rattle.file_format.specs.Books.{consolidation}
+use Rattle.file_acceptance.specs.Laws.{rows_all}
 use Rattle.file_acceptance.proofs.consolidations_in.Goals as goal
 
-pub returns-then-not-consolidation_in : goal.returns-then-not-consolidation_in
-returns-then-not-consolidation_in c =
-    let l = c.loop-i in
-    every_stop _ _ _ l.i l.invariant (omega arith)
-    (sym (c.consolidation_in.ensures ∙ ap (consolidation_in c.args.n) c.read-consolidation.ensures)
-    ∙ c.if-not-consolidation_in.true)
-
-pub loop-i-preserved : goal.loop-i-preserved
-loop-i-preserved c =
-    let l = c.loop-i in
-    every_more _ _ _ l.i l.invariant (omega arith)
-    (sym (c.consolidation_in.ensures ∙ ap (consolidation_in c.args.n) c.read-consolidation.ensures)
-    ∙ c.if-not-consolidation_in.false)
-
 pub returns : goal.returns
-returns c = let l = c.loop-i in every_done _ _ _ l.i l.invariant (omega arith)
+returns c =
+    let a = c.args in
+    let ws = words a.records.now in
+    all_from_yields_List (λ i. consolidation_in a.n (consolidation.value (drop (i * 6) ws))) _ _ c.all.result
+    c.all.ensures.ran
+    (YieldsList-from_range 0 a.m a.m refl (omega arith)) (λ x b q h. (search (rules, tests), search (rules, tests)))
+    ∙ rows_all (consolidation_in a.n) (λ i. consolidation.value (drop (i * 6) ws)) a.m

@@ -12,4 +12,4 @@ sum_within-sums-requires-in-DepositReceipt c = sum_small _ _ _ c.requires.accept
 
 pub returns-in-Turn : goal.returns-in-Turn
 returns-in-Turn c =
-    called_as (turn_read (words c.args.file.now) c.args.k c.in-Turn.ensures) c.turn_accepted.ensures
+    called_as (turn_read (words c.args.call.rest.now) c.in-Turn.ensures) c.turn_accepted.ensures

@@ -1,13 +1,10 @@
-use Rattle.std.proofs.Common.{◌≡◌, refl, take, rules}
-use Rattle.tables.specs.Rows.{rows}
-use Rattle.file_records.specs.Laws.{head_numbers, settings_read}
-use Rattle.file_format.specs.Words.{words}
+use native.Mathlib.Omega.{arith}
+use Rattle.file_format.proofs.PlacesLaws.{numbers_at}
+use Rattle.file_records.specs.Laws.{file_good}
 use Rattle.file_records.proofs.settings_at.Goals as goal
 
+pub numbers_at-requires : goal.numbers_at-requires
+numbers_at-requires c = (omega arith, rw c.behind.ensures (file_good _ c.args.file.good).settings_good)
+
 pub returns : goal.returns
-unfolding rows
-returns c =
-    let first : c.unwrap-settings.result ≡ take 19 c.head_numbers-head.result = search rules in
-    let ws = words c.args.file.now in
-    settings_read ws (head_numbers ws) refl
-    (rw (c.from.ensures, first, c.head_numbers-head.ensures))
+returns c = rw (c.from.ensures, c.numbers_at.ensures, c.behind.ensures, numbers_at)

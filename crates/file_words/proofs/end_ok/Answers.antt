@@ -3,8 +3,5 @@ use Rattle.std.proofs.Common.{rules}
 use Rattle.file_words.specs.Laws.{ends_not, ends_so}
 use Rattle.file_words.proofs.end_ok.Goals as goal
 
-pub returns-then-e-file : goal.returns-then-e-file
-returns-then-e-file c = search (ends_not, rules)
-
 pub returns : goal.returns
 returns c = search (ends_so, rules)

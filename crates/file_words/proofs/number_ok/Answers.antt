@@ -3,5 +3,5 @@ use Rattle.std.proofs.Common.{rules}
 use Rattle.file_words.specs.Laws.{number_outside}
 use Rattle.file_words.proofs.number_ok.Goals as goal
 
-pub returns-then-file-k : goal.returns-then-file-k
-returns-then-file-k c = search (number_outside, rules)
+pub returns-then-rest-lt3 : goal.returns-then-rest-lt3
+returns-then-rest-lt3 c = search (number_outside, rules)

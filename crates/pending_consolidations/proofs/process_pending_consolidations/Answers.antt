@@ -31,6 +31,5 @@ returns c =
     let a = c.args in
     let held = tables a.identities.now a.validators.now a.deposits.now a.partials.now a.consolidations.now in
     let l = c.process_consolidations-processed in
-    rw c.with_consolidations.ensures
-    (drained (settings_of a.settings) a.scalars l.result.scalars held _ l.result.next _ _
-    l.ensures (omega (arith, l.ensures.reached)) c.drain.ensures)
+    drained (settings_of a.settings) a.scalars l.result.scalars held _ l.result.next _ _
+    l.ensures (omega (arith, l.ensures.reached)) c.drain.ensures

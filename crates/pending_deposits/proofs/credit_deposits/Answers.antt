@@ -1,10 +1,7 @@
 use native.Mathlib.Omega.{arith}
-use Rattle.pending_deposits.proofs.DepositStep.{crediting_none, crediting_more, crediting_end}
+use Rattle.pending_deposits.proofs.DepositStep.{crediting_more, crediting_end}
 use Rattle.pending_deposits.proofs.DepositStep.{index_known, balance_small}
 use Rattle.pending_deposits.proofs.credit_deposits.Goals as goal
-
-pub loop-i-init : goal.loop-i-init
-loop-i-init c = crediting_none _ _ _ _ c.requires.sums
 
 pub increase_balance-requires : goal.increase_balance-requires
 increase_balance-requires c =

@@ -1,5 +1,5 @@
 use native.Mathlib.Omega.{arith}
-use Rattle.pending_deposits.proofs.DepositStep.{paid_reached, paid_known, paid_small, left_within, processed}
+use Rattle.pending_deposits.proofs.DepositStep.{paid_reached, paid_known, paid_small, processed}
 use Rattle.pending_deposits.proofs.process_deposits.Goals as goal
 
 pub credit_deposits-requires : goal.credit_deposits-requires
@@ -12,12 +12,6 @@ credit_deposits-requires c =
       known = paid_known a.available.0 a.m _ _ a.deposits.now is a.n r.known;
       sums = λ ids. paid_small a.available.0 a.m _ _ a.deposits.now is _ (r.sums ids);
     }
-
-pub overflow_sub-result : goal.overflow_sub-result
-overflow_sub-result c =
-    let a = c.args in
-    left_within a.available.0 a.m _ _ a.deposits.now
-    c.affordable_deposits-affordable.ensures
 
 pub returns : goal.returns
 returns c =

@@ -9,8 +9,8 @@ use Rattle.queue_room.proofs.process_deposits.Goals as goal
 
 pub returns-then-available-processed_amount : goal.returns-then-available-processed_amount
 returns-then-available-processed_amount c =
-    let s = c.args.scalars in
-    let ds = c.args.deposits.now in
+    let s = c.args.books.now.scalars in
+    let ds = c.args.books.now.deposits.now in
     let l = c.loop-k in
     let e = deposit_next s.deposits ds l.k c.loop-k-test.true c.entry_at-d.ensures in (
       l.invariant.size,
@@ -21,32 +21,35 @@ returns-then-available-processed_amount c =
 
 pub credit_deposit-requires-clause-amount_bound : goal.credit_deposit-requires-clause-amount_bound
 credit_deposit-requires-clause-amount_bound c =
-    let s = c.args.scalars in
-    let ds = c.args.deposits.now in
+    let s = c.args.books.now.scalars in
+    let ds = c.args.books.now.deposits.now in
     let l = c.loop-k in
     let read = c.entry_at-d.ensures in
     let e = deposit_next s.deposits ds l.k c.loop-k-test.true read in
-    let inside = owner s.validators s.deposits ds l.k c.loop-k-test.true c.requires.deposits_ready.inside read in
+    let inside = owner s.validators s.deposits ds l.k c.loop-k-test.true c.requires.ready.deposits_inside read in
     omega (arith, crediting_fits l.invariant (plain_deposit c.entry_at-d.result) e inside)
 
 pub loop-k-preserved : goal.loop-k-preserved
 loop-k-preserved c =
-    let s = c.args.scalars in
-    let ds = c.args.deposits.now in
+    let s = c.args.books.now.scalars in
+    let ds = c.args.books.now.deposits.now in
     let l = c.loop-k in
     let read = c.entry_at-d.ensures in
     let e = deposit_next s.deposits ds l.k c.loop-k-test.true read in
-    let inside = owner s.validators s.deposits ds l.k c.loop-k-test.true c.requires.deposits_ready.inside read in
+    let inside = owner s.validators s.deposits ds l.k c.loop-k-test.true c.requires.ready.deposits_inside read in
     rw c.credit_deposit.ensures
     (crediting_more l.invariant (plain_deposit c.entry_at-d.result) e inside
-    c.requires.registry_ready.most c.if-available-processed_amount.false)
+    c.requires.ready.step.most_validators c.if-available-processed_amount.false)
 
 -- past the last deposit k is their count
 pub returns : goal.returns
 returns c =
-    let s = c.args.scalars in
-    let ds = c.args.deposits.now in
+    let s = c.args.books.now.scalars in
+    let ds = c.args.books.now.deposits.now in
     let l = c.loop-k in
     let size = length_rows s.deposits (deposit_at ds) in
-    let past : l.k ≡ s.deposits = omega arith in
-    (l.invariant.size, rw past at (crediting_end l.invariant (omega (arith, size)) (drop_rows_end _ _ _ c.loop-k-test.false)))
+    let past : l.k ≡ s.deposits = omega arith in (
+      l.invariant.size,
+      rw past at
+          (crediting_end l.invariant (omega (arith, size)) (drop_rows_end _ _ _ c.loop-k-test.false)),
+    )

@@ -9,20 +9,20 @@ use Rattle.queue_room.proofs.queue_after_turn.Goals as goal
 
 pub overflow_sub-result : goal.overflow_sub-result
 overflow_sub-result c =
-    let a = c.args in
+    let b = c.args.books.now in
     omega (
       arith,
       c.process_deposits-credited.ensures.1.most,
-      length_rows a.scalars.deposits (deposit_at a.deposits.now),
+      length_rows b.scalars.deposits (deposit_at b.deposits.now),
     )
 
 pub returns : goal.returns
 returns c =
     λ ps e.
-    let a = c.args in
-    let S = settings_of a.settings in
-    let t = tables a.identities.now a.validators.now a.deposits.now ps a.consolidations.now in
+    let b = c.args.books.now in
+    let S = settings_of c.args.settings in
+    let t = tables b.identities.now b.validators.now b.deposits.now ps b.consolidations.now in
     let done = c.process_deposits-credited.ensures.1 in
-    let k = represented_deposits a.scalars t S a.available.0 e done.balances in
-    queue_of_turn S a.scalars t c.process_deposits-credited.result e done.waiting
+    let k = represented_deposits b.scalars t S c.args.available.0 e done.balances in
+    queue_of_turn S b.scalars t c.process_deposits-credited.result e done.waiting
     (c.count_excess_entries-entries.ensures.1 _ k)

@@ -8,14 +8,12 @@ use Rattle.queue_room.specs.Ready.{available_small}
 use Rattle.queue_room.specs.Room.{available_is, turn_fits_uncounted}
 use Rattle.queue_room.proofs.turn_fits.Goals as goal
 
-pub returns-then-scalars-limit : goal.returns-then-scalars-limit
-returns-then-scalars-limit c =
+pub returns-then-most-limit : goal.returns-then-most-limit
+returns-then-most-limit c =
     λ ps.
-    let a = c.args in
-    turn_fits_uncounted (settings_of a.settings) a.scalars
-    (tables a.identities.now a.validators.now a.deposits.now ps a.consolidations.now)
-    a.settings.pending_balance_deposits_limit
-    c.requires.queue_ready.most c.if-scalars-limit.true
+    let b = c.args.books.now in
+    turn_fits_uncounted (settings_of c.args.settings) b.scalars
+    (tables b.identities.now b.validators.now b.deposits.now ps b.consolidations.now) _ c.if-most-limit.true
 
 pub overflow_add-available : goal.overflow_add-available
 overflow_add-available c =
@@ -24,8 +22,8 @@ overflow_add-available c =
 pub returns : goal.returns
 returns c =
     λ ps.
-    let a = c.args in
-    let t = tables a.identities.now a.validators.now a.deposits.now ps a.consolidations.now in
-    ap (λ n. leb n a.settings.pending_balance_deposits_limit)
-    (c.queue_after_turn-queue.ensures ps
-    (available_is (settings_of a.settings) a.scalars t (c.requires.allowance_is ps)))
+    let b = c.args.books.now in
+    let S = settings_of c.args.settings in
+    let t = tables b.identities.now b.validators.now b.deposits.now ps b.consolidations.now in
+    ap (λ n. leb n S.pending_balance_deposits_limit)
+    (c.queue_after_turn-queue.ensures ps (available_is S b.scalars t (c.requires.allowance_is ps)))

@@ -1,16 +1,13 @@
-use Rattle.std.proofs.Common.{Err, ap, refl, rules, ◌∙◌, ◌≡◌}
+use Rattle.std.proofs.Common.{Err, refl, rules, ◌∙◌, ◌≡◌}
 use Rattle.primitives.specs.Answers.{refusal_not_0}
 use mathlib.Core.Bool.{◌&&◌}
 use Prim.Native.Nat.{◌+◌}
-use native.Mathlib.Omega.{arith}
 use lib.Dec.{leb}
 use Rattle.primitives.specs.Settings.{settings_of}
-use Rattle.primitives.specs.declared.Scalars.{Scalars}
-use Rattle.primitives.specs.Scalars as scalars
 use Rattle.records.specs.Books.{tables}
 use Rattle.call_answers.specs.Answers.{judged_done, judged_refused}
 use Rattle.receipt_operations.proofs.Receipts.{added_number, added_stepped}
-use Rattle.receipt_operations.proofs.Sizes.{sums_known, limits_kept}
+use Rattle.receipt_operations.proofs.Sizes.{sums_known}
 use Rattle.receipt_operations.proofs.add_validator_to_registry.Goals as goal
 
 pub returns-in_err-size_number : goal.returns-in_err-size_number
@@ -28,23 +25,6 @@ returns-in_err-size_number c =
     ∙ added_number (settings_of a.settings) a.scalars t k a.public_key a.withdrawal_credentials a.amount.0)
     (refusal_not_0 _))
 
-pub push_validator-requires : goal.push_validator-requires
-push_validator-requires c =
-    let a = c.args in
-    let ready = c.requires.receipt_ready in
-    let fits =
-    limits_kept (a.scalars.validators + 1) a.settings.validator_registry_limit (a.scalars.deposits + 1)
-    a.settings.pending_balance_deposits_limit a.sums c.in_ok-size_number.ensures refl in
-    (omega (arith, fits.0, ready.identities), omega (arith, fits.0, ready.validators))
-
-pub push-requires : goal.push-requires
-push-requires c =
-    let a = c.args in
-    let fits =
-    limits_kept (a.scalars.validators + 1) a.settings.validator_registry_limit (a.scalars.deposits + 1)
-    a.settings.pending_balance_deposits_limit a.sums c.in_ok-size_number.ensures refl in
-    omega (arith, fits.1, c.requires.receipt_ready.deposits)
-
 pub returns : goal.returns
 returns c =
     λ ps cs k.
@@ -59,6 +39,4 @@ returns c =
     (added_stepped a.scalars a.public_key a.withdrawal_credentials a.amount.0 a.identities.now
     a.validators.now a.deposits.now _ _ _ c.get_validator_from_deposit-v.ensures
     c.push_validator.ensures c.push.ensures
-    (c.with_deposits-queued.ensures
-    ∙ ap (λ (s : Scalars). scalars.with_deposits s (a.scalars.deposits + 1)) c.with_validators-added.ensures)
-    ps cs)
+    refl ps cs)

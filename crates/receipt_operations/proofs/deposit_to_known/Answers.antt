@@ -1,10 +1,9 @@
-use Rattle.std.proofs.Common.{Err, ap, refl, rules, ◌∙◌, ◌≡◌}
+use Rattle.std.proofs.Common.{Err, refl, rules, ◌∙◌, ◌≡◌}
 use Rattle.primitives.specs.Answers.{refusal_not_0}
 use Prim.Native.Nat.{◌+◌}
 use native.Mathlib.Omega.{arith}
 use lib.Dec.{leb}
 use Rattle.primitives.specs.Settings.{settings_of}
-use Rattle.primitives.specs.declared.Scalars.{Scalars}
 use Rattle.records.specs.Plain.{plain_validator}
 use Rattle.records.specs.Books.{tables}
 use Rattle.call_answers.specs.Answers.{judged_done, judged_refused}
@@ -41,14 +40,6 @@ returns-in_err-size_number c =
     c.queued_by_switch-more.result a.switch known.2 c.queued_by_switch-more.ensures)
     (refusal_not_0 _))
 
-pub push-requires : goal.push-requires
-push-requires c =
-    let a = c.args in
-    let fits =
-    limit_kept (a.scalars.deposits + 1 + c.queued_by_switch-more.result) a.settings.pending_balance_deposits_limit
-    a.sums c.in_ok-size_number.ensures refl in
-    omega (arith, fits, c.requires.receipt_ready.deposits)
-
 pub returns-then-not-switch : goal.returns-then-not-switch
 returns-then-not-switch c =
     λ ps cs k.
@@ -63,7 +54,7 @@ returns-then-not-switch c =
     c.queued_by_switch-more.result a.switch known.2 c.queued_by_switch-more.ensures)
     (known_stepped (settings_of a.settings) a.scalars a.i.0 a.amount.0 a.identities.now
     a.validators.now a.deposits.now _ c.push.ensures ps cs a.switch
-    c.if-not-switch.true c.with_deposits-queued.ensures)
+    c.if-not-switch.true refl)
 
 pub switch_to_compounding_validator-switched-requires : goal.switch_to_compounding_validator-switched-requires
 switch_to_compounding_validator-switched-requires c =
@@ -73,19 +64,17 @@ switch_to_compounding_validator-switched-requires c =
     let fits =
     limit_kept (a.scalars.deposits + 1 + c.queued_by_switch-more.result) a.settings.pending_balance_deposits_limit
     a.sums c.in_ok-size_number.ensures refl in
-    let grown = c.with_deposits-queued.ensures in
-    let same = ap (λ (x : Scalars). x.validators) grown in
     record {
       i_lt_validators = (
-        omega (arith, same, known.0),
-        omega (arith, same, ready.registry, ready.identities),
-        omega (arith, same, ready.registry, ready.validators),
+        omega (arith, known.0),
+        omega (arith, ready.registry, ready.identities),
+        omega (arith, ready.registry, ready.validators),
       );
       by_index =
-          switch_room (settings_of a.settings) a.scalars c.with_deposits-queued.result a.i.0
+          switch_room (settings_of a.settings) a.scalars _ a.i.0
           known.0 (plain_validator a.v) a.identities.now a.validators.now a.deposits.now _
           known.1 (known.2 c.if-not-switch.false) c.queued_by_switch-more.result a.switch c.if-not-switch.false
-          c.queued_by_switch-more.ensures (omega (arith, fits, ready.deposits)) c.push.auto.table grown;
+          c.queued_by_switch-more.ensures (omega (arith, fits, ready.deposits)) c.push.auto.table refl;
     }
 
 pub returns : goal.returns
@@ -102,6 +91,6 @@ returns c =
     c.queued_by_switch-more.result a.switch known.2 c.queued_by_switch-more.ensures)
     (switch_stepped (settings_of a.settings) a.scalars a.i.0 a.amount.0 a.identities.now
     a.validators.now a.deposits.now _ c.push.ensures ps cs a.switch
-    c.if-not-switch.false _ c.with_deposits-queued.ensures
+    c.if-not-switch.false _ refl
     (c.switch_to_compounding_validator-switched.ensures.by_index_3 ps cs)
     (c.switch_to_compounding_validator-switched.ensures.by_index_2 ps cs))

@@ -1,4 +1,4 @@
-use mathlib.Core.Path.{refl, ap, ◌∙◌}
+use mathlib.Core.Path.{refl, ap}
 use borrow.Author.Tests.{eq-eqb, ne_eqb}
 use Rattle.primitives.specs.Scalars.{with_receipts_start}
 use Rattle.call_answers.specs.Tests.{fails, passes}
@@ -10,6 +10,5 @@ returns-then-scalars-ne-FAR_FUTURE_EPOCH c =
 
 pub returns : goal.returns
 returns c =
-    c.with_receipts_start.ensures
-    ∙ ap (with_receipts_start c.args.scalars)
+    ap (with_receipts_start c.args.scalars)
     (fails _ _ (eq-eqb _ _ c.if-scalars-ne-FAR_FUTURE_EPOCH.false))

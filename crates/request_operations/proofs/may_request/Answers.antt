@@ -72,7 +72,7 @@ overflow_add-result c =
     leb-true v.activation_epoch.0 epoch
     (both (leb v.activation_epoch.0 epoch) (ltb epoch v.exit_epoch.0)
     (sym c.is_active_validator.ensures ∙ c.if-not-is_active_validator.false)).0 in
-    omega (arith, begun, c.requires.current_epoch_bound, (settings_sound _ c.requires.settings_are_sound).period)
+    omega (arith, begun, c.requires.current_epoch_bound, (settings_sound _ c.args.sound.sound).period)
 
 pub returns : goal.returns
 unfolding may_request
@@ -88,4 +88,4 @@ returns c =
     passes _ _ own
     (passes _ _ (ap not (sym c.is_active_validator.ensures ∙ c.if-not-is_active_validator.false))
     (passes _ _ (agrees _ _ c.if-v-ne-FAR_FUTURE_EPOCH.false)
-    (not_later (a.v.activation_epoch.0 + a.settings.shard_committee_period) a.current_epoch.0)))
+    (not_later (a.v.activation_epoch.0 + a.sound.settings.shard_committee_period) a.current_epoch.0)))

@@ -5,12 +5,11 @@ use borrow.Author.Tests.{eq-eqb, ne_eqb}
 use Rattle.rules.specs.Types.{Validator}
 use Rattle.rules.specs.Helpers.{position}
 use Rattle.rules.specs.Calls.{own_refusal, result, withdrawal_request}
-use Rattle.rule_laws.specs.Accepted.{settings_sound_so}
 use Rattle.primitives.specs.Settings.{settings_of}
 use Rattle.records.specs.Plain.{plain_validator}
 use Rattle.records.specs.Books.{tables, books_of}
 use Rattle.records.specs.Reading.{partials_count}
-use Rattle.acceptance.specs.Handed.{facts}
+use Rattle.acceptance.specs.Handed.{accepted, facts}
 use Rattle.helpers.specs.Ready.{registry_ready, accounts_ready, partials_ready, identities_ready}
 use Rattle.call_answers.specs.Tests.{fails, passes}
 use Rattle.call_answers.specs.Answers.{judged_called, judged_same, judged_as}
@@ -63,6 +62,9 @@ validator_at-v-requires c =
     let m = (registry_ready S a.scalars held f.settings f.room f.books).fit in
     (omega (arith, found.1, n), omega (arith, found.1, m))
 
+pub invariant_of-sound : goal.invariant_of-sound
+invariant_of-sound c = record { sound = (accepted _ _ _ c.requires).settings }
+
 pub may_request-requires : goal.may_request-requires
 may_request-requires c =
     let a = c.args in
@@ -70,7 +72,6 @@ may_request-requires c =
     let S = settings_of a.settings in
     let f = facts S a.scalars held c.requires in
     record {
-      settings_are_sound = settings_sound_so S f.settings;
       current_epoch_bound = (accounts_ready S a.scalars held f.settings f.room f.books).epoch;
     }
 
@@ -100,7 +101,6 @@ request_full_exit-requires c =
     may_far S a.scalars.epoch.0 (plain_validator c.validator_at-v.result) a.source_address
     (sym c.may_request.ensures ∙ c.if-not-may_request.false) in
     record {
-      settings_are_sound = settings_sound_so S f.settings;
       registry = registry_ready S a.scalars held f.settings f.room f.books;
       accounts = accounts_ready S a.scalars held f.settings f.room f.books;
       partials = partials_ready S a.scalars held f.settings f.room f.books;
@@ -136,7 +136,6 @@ request_partial_withdrawal-requires c =
     queue_room a.scalars.partials S.pending_partial_withdrawals_limit a.amount.0
     (sym c.queue_is_full.ensures ∙ c.if-queue_is_full.false) c.if-amount-eq0.false in
     record {
-      settings_are_sound = settings_sound_so S f.settings;
       registry = registry_ready S a.scalars held f.settings f.room f.books;
       accounts = accounts_ready S a.scalars held f.settings f.room f.books;
       partials = partials_ready S a.scalars held f.settings f.room f.books;

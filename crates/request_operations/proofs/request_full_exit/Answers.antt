@@ -11,14 +11,14 @@ returns-then-pending-ne0 c =
     let a = c.args in
     let owed = c.get_pending_balance_to_withdraw-pending in
     judged_same k
-    (full_exit_none (settings_of a.settings) a.scalars (tables ids a.validators.now ds a.partials.now cs)
+    (full_exit_none (settings_of a.sound.settings) a.scalars (tables ids a.validators.now ds a.partials.now cs)
     a.i.0 (owed.ensures ids a.validators.now ds cs) (ne_eqb owed.result.0 0 c.if-pending-ne0.true))
 
 pub returns : goal.returns
 returns c =
     λ ids ds cs k.
     let a = c.args in
-    let S = settings_of a.settings in
+    let S = settings_of a.sound.settings in
     let owed = c.get_pending_balance_to_withdraw-pending in
     judged_as (request_full_exit S a.i.0)
     (full_exit_some S a.scalars (tables ids a.validators.now ds a.partials.now cs) a.i.0

@@ -17,7 +17,6 @@ unfolding books_of
 has_excess-requires c =
     let a = c.args in
     record {
-      settings_are_sound = c.requires.settings_are_sound;
       pending_bound =
           omega (
             arith,
@@ -33,7 +32,7 @@ returns-then-not-has_excess c =
     let a = c.args in
     let owed = c.get_pending_balance_to_withdraw-pending in
     judged_same k
-    (partial_none (settings_of a.settings) a.scalars (tables ids a.validators.now ds a.partials.now cs)
+    (partial_none (settings_of a.sound.settings) a.scalars (tables ids a.validators.now ds a.partials.now cs)
     a.i.0 c.requires.known_validator.0 (plain_validator a.v) owed.result.0 read
     (owed.ensures ids a.validators.now ds cs) a.amount.0
     (sym c.has_excess.ensures ∙ c.if-not-has_excess.true))
@@ -41,7 +40,7 @@ returns-then-not-has_excess c =
 pub to_withdraw-withdrawn-requires : goal.to_withdraw-withdrawn-requires
 to_withdraw-withdrawn-requires c =
     let a = c.args in
-    excess_above (settings_of a.settings) (plain_validator a.v)
+    excess_above (settings_of a.sound.settings) (plain_validator a.v)
     c.get_pending_balance_to_withdraw-pending.result.0 (sym c.has_excess.ensures ∙ c.if-not-has_excess.false)
 
 pub queue_partial_withdrawal-requires : goal.queue_partial_withdrawal-requires
@@ -49,7 +48,6 @@ unfolding to_withdraw
 queue_partial_withdrawal-requires c =
     let p = c.requires in
     record {
-      settings_are_sound = p.settings_are_sound;
       registry = p.registry;
       accounts = p.accounts;
       partials = p.partials;
@@ -63,7 +61,7 @@ pub returns : goal.returns
 returns c =
     λ ids ds cs read k.
     let a = c.args in
-    let S = settings_of a.settings in
+    let S = settings_of a.sound.settings in
     let t = tables ids a.validators.now ds a.partials.now cs in
     let owed = c.get_pending_balance_to_withdraw-pending in
     judged_as (request_partial_withdrawal S a.i.0 a.amount.0)

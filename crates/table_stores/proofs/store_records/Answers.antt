@@ -7,4 +7,5 @@ loop-i-init g c = stored_none _ _ _
 pub loop-i-preserved : goal.loop-i-preserved
 loop-i-preserved g c =
     let p = c.push in
-    stored_more _ _ _ c.loop-i.invariant p.ensures p.auto.table (rw c.WORDS.ensures at c.read.ensures)
+    stored_more _ _ _ c.loop-i.invariant p.ensures p.auto.table
+    (rw (c.behind.ensures, c.WORDS.ensures) at c.read.ensures)

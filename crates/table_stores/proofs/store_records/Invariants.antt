@@ -6,4 +6,4 @@ use Rattle.table_stores.proofs.store_records.Given as goal
 abbrev pub invariant-loop-i : goal.invariant-loop-i
 invariant-loop-i g l =
     let R = g.R.FileRecord in
-    Stored R.decode R.width l.i (records_from R.format R.WORDS l.k l.i (words l.file)) l.initial.table l.table
+    Stored R.decode R.width l.i (records_from R.format R.WORDS l.i (words l.list)) l.initial.table l.table

@@ -7,4 +7,4 @@ loop-i-init c = validators_none _
 pub loop-i-preserved : goal.loop-i-preserved
 loop-i-preserved c =
     let p = c.store_validator in
-    validators_more _ c.loop-i.invariant p.ensures p.auto.identities p.auto.validators
+    validators_more _ c.loop-i.invariant (rw c.behind.ensures at p.ensures) p.auto.identities p.auto.validators

@@ -24,21 +24,24 @@ pub overflow_add-next : goal.overflow_add-next
 overflow_add-next c =
     let l = c.loop-next in
     let n =
-    next_block _ c.args.m l.next l.left _ _ l.invariant.reached c.block_from-block.ensures c.affordable_of-lent.ensures in
+    next_block _ c.args.m l.next l.left _ _ l.invariant.reached c.block_from-block.ensures c.affordable_of-lent.ensures
+    in
     omega (arith, walking_within l.invariant _ n.0 _ _ n.1)
 
 pub returns-then-lent-block : goal.returns-then-lent-block
 returns-then-lent-block c =
     let l = c.loop-next in
     let n =
-    next_block _ c.args.m l.next l.left _ _ l.invariant.reached c.block_from-block.ensures c.affordable_of-lent.ensures in
+    next_block _ c.args.m l.next l.left _ _ l.invariant.reached c.block_from-block.ensures c.affordable_of-lent.ensures
+    in
     walking_stop l.invariant _ n.0 _ _ n.1 c.if-lent-block.true
 
 pub loop-next-preserved : goal.loop-next-preserved
 loop-next-preserved c =
     let l = c.loop-next in
     let n =
-    next_block _ c.args.m l.next l.left _ _ l.invariant.reached c.block_from-block.ensures c.affordable_of-lent.ensures in
+    next_block _ c.args.m l.next l.left _ _ l.invariant.reached c.block_from-block.ensures c.affordable_of-lent.ensures
+    in
     walking_more l.invariant _ n.0 _ _ n.1 c.if-lent-block.false
 
 pub returns-after-loop-next : goal.returns-after-loop-next

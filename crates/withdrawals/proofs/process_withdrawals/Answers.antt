@@ -8,14 +8,14 @@ use Rattle.withdrawals.proofs.process_withdrawals.Goals as goal
 use Rattle.withdrawals.proofs.process_withdrawals.Goals.{Start}
 
 -- what every step asks for
-ready : (c : Start) → Ready c.args.settings c.args.scalars c.args.validators.now c.args.partials.now
+ready : (c : Start) → Ready c.args.sound.settings c.args.scalars c.args.validators.now c.args.partials.now
     c.args.list c.args.n c.args.expected.partials
 ready c =
     let a = c.args in
     let r = c.requires in
-    ready_by_tests a.settings a.scalars
+    ready_by_tests a.sound.settings a.scalars
     (tables a.identities.now a.validators.now a.deposits.now a.partials.now a.consolidations.now) a.list a.n
-    r.settings_value r.consolidations_value r.consolidations_value_2 r.expected_value r.consolidations_value_3
+    a.sound.sound r.room r.books_are_sound r.expected_value r.same
 
 pub overflow_sub-left : goal.overflow_sub-left
 overflow_sub-left c = (ready (goal.at.overflow_sub-left c).Start).few
@@ -50,9 +50,8 @@ pub returns : goal.returns
 returns c =
     let a = c.args in
     let lent = tables a.identities.now a.validators.now a.deposits.now a.partials.now a.consolidations.now in
-    stepped a.settings a.scalars a.identities.now a.validators.now a.deposits.now a.partials.now a.consolidations.now
-    (handed_list a.list a.n) (ready (goal.at.returns c).Start).few
-    (expected_partials (settings_of a.settings) (books_of a.scalars lent) c.requires.expected_value)
+    stepped a.sound.settings a.scalars a.identities.now a.validators.now a.deposits.now a.partials.now
+    a.consolidations.now (handed_list a.list a.n) (ready (goal.at.returns c).Start).few
+    (expected_partials (settings_of a.sound.settings) (books_of a.scalars lent) c.requires.expected_value)
     c.pay_withdrawals.ensures c.remove_partials.ensures
     c.next_index-index.ensures c.next_validator_index-cursor.ensures
-    c.with_next_withdrawal.ensures

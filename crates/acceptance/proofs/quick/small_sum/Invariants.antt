@@ -12,5 +12,6 @@ low x = x % 2 ^ 46
 abbrev pub invariant-loop-i : goal.invariant-loop-i
 invariant-loop-i l =
     (l.sum ≤ l.i * 2 ^ 46)
-    × (l.sum + total low (drop l.i (rows l.n (balance_at l.validators))) ≡ total low (rows l.n (balance_at l.validators)))
+    × (l.sum + total low (drop l.i (rows l.n (balance_at l.validators)))
+    ≡ total low (rows l.n (balance_at l.validators)))
     × Seen l.most.0 l.validators l.flags l.bits l.balances l.i

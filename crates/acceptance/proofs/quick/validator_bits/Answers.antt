@@ -15,7 +15,8 @@ returns c small =
     let two = or_at_least (bit_or effective left) eligibility in
     let three = or_at_least (bit_or (bit_or effective left) eligibility) activation in
     let four = or_at_least (bit_or (bit_or (bit_or effective left) eligibility) activation) exit in
-    let five = or_at_least (bit_or (bit_or (bit_or (bit_or effective left) eligibility) activation) exit) withdrawable in
+    let five =
+    or_at_least (bit_or (bit_or (bit_or (bit_or effective left) eligibility) activation) exit) withdrawable in
     record {
       effective =
           rw c.effective_balance_at-effective_balance.ensures at

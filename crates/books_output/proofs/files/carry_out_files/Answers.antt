@@ -1,30 +1,34 @@
 -- The opening is judged before the calls are looked at, and they are carried out on what was read into the tables.
-use mathlib.Core.Path.{refl, ◌∙◌}
+use borrow.Author.Rules.{rules}
+use mathlib.Core.Path.{refl}
 use native.Mathlib.Omega.{arith}
-use Rattle.books_output.proofs.Laws.{refused_files, calls_too_long, calls_carried}
+use Rattle.std.proofs.Common.{◌≡◌, Err}
+use Rattle.primitives.specs.Answers.{refusal_not_0}
+use Rattle.books_output.proofs.Laws.{program_buffers, calls_too_long, calls_refused, calls_carried}
 use Rattle.books_output.proofs.files.carry_out_files.Goals as goal
-
-pub returns-then-opened-ne-DONE : goal.returns-then-opened-ne-DONE
-returns-then-opened-ne-DONE c =
-    refused_files c.refused.ensures c.if-opened-ne-DONE.true
-    (c.open-opened.ensures.refused c.if-opened-ne-DONE.true c.args.calls.now)
 
 pub returns-then-calls-gt-MOST_BYTES : goal.returns-then-calls-gt-MOST_BYTES
 returns-then-calls-gt-MOST_BYTES c =
-    refused_files (c.refused-then-calls-gt-MOST_BYTES.ensures ∙ c.number.ensures) (omega arith)
-    (calls_too_long c.open-opened.ensures c.if-opened-ne-DONE.false c.args.calls.now
-    (omega (arith, c.if-calls-gt-MOST_BYTES.true)))
+    calls_too_long c.in_ok-opened.ensures c.args.calls.now (omega (arith, c.if-calls-gt-MOST_BYTES.true))
+
+pub returns-in_err-carried : goal.returns-in_err-carried
+returns-in_err-carried c =
+    let e : c.from_residual-in_err-carried.result ≡ Err c.in_err-carried.field-0.0 = search rules in
+    rw e
+    (calls_refused c.in_ok-opened.ensures c.args.calls.now (omega (arith, c.if-calls-gt-MOST_BYTES.false))
+    (program_buffers _ _ _ _ _ (omega arith) (omega arith) (omega arith) (omega arith) (omega arith))
+    (omega arith) c.in_err-carried.ensures (refusal_not_0 _))
 
 pub returns : goal.returns
 returns c =
-    let r = c.carry_out-carried in
-    calls_carried c.open-opened.ensures c.if-opened-ne-DONE.false c.args.calls.now
-    (omega (arith, c.if-calls-gt-MOST_BYTES.false)) refl
+    let r = c.carry_out.auto in
+    calls_carried c.in_ok-opened.ensures c.args.calls.now (omega (arith, c.if-calls-gt-MOST_BYTES.false))
+    (program_buffers _ _ _ _ _ (omega arith) (omega arith) (omega arith) (omega arith) (omega arith))
+    (omega arith) c.in_ok-carried.ensures refl
     (record {
-      identities = r.auto.identities;
-      validators = r.auto.validators;
-      deposits = r.auto.deposits;
-      partials = r.auto.partials;
-      consolidations = r.auto.consolidations;
+      identities = r.identities;
+      validators = r.validators;
+      deposits = r.deposits;
+      partials = r.partials;
+      consolidations = r.consolidations;
     })
-    c.requires.results_length r.ensures

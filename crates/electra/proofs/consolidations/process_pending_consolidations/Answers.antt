@@ -3,8 +3,7 @@ use borrow.Author.Tests.{leb-true}
 use Rattle.acceptance.specs.Handed.{accepted}
 use Rattle.primitives.specs.Answers.{refusal_not_0}
 use Rattle.call_answers.specs.Called.{handed_refused}
-use Rattle.epoch_turns.specs.Epoch.{consolidations_over, consolidations_done}
-use Rattle.epoch_turns.specs.Epoch.{registry_there, consolidations_there, queue_there}
+use Rattle.epoch_turns.specs.Epoch.{step_known, consolidations_over, consolidations_done}
 use Rattle.electra.proofs.consolidations.process_pending_consolidations.Goals as goal
 
 pub returns-in_err-accept : goal.returns-in_err-accept
@@ -13,13 +12,7 @@ returns-in_err-accept c =
     rw e (handed_refused _ _ _ _ _ c.in_err-accept.ensures.number_value (refusal_not_0 _))
 
 pub consolidations_fit-requires : goal.consolidations_fit-requires
-consolidations_fit-requires c =
-    let h = sym c.in_ok-accept.ensures.number_value in
-    record {
-      registry_ready = registry_there _ _ _ h;
-      consolidations_ready = consolidations_there _ _ _ h;
-      queue_ready = queue_there _ _ _ h;
-    }
+consolidations_fit-requires c = step_known _ _ (sym c.in_ok-accept.ensures.number_value)
 
 pub returns-then-not-consolidations_fit : goal.returns-then-not-consolidations_fit
 returns-then-not-consolidations_fit c =

@@ -10,17 +10,18 @@ returns-in_err-accept c =
     let e : c.from_residual.result ≡ Err c.in_err-accept.field-0.0 = search rules in
     rw e (handed_refused _ _ _ _ _ c.in_err-accept.ensures.number_value (refusal_not_0 _))
 
+pub invariant_of-sound : goal.invariant_of-sound
+invariant_of-sound c = record { sound = (accepted _ _ _ (sym c.in_ok-accept.ensures.number_value)).settings }
+
 pub get_activation_exit_churn_limit-allowance-requires : goal.get_activation_exit_churn_limit-allowance-requires
 get_activation_exit_churn_limit-allowance-requires c =
-    let h = sym c.in_ok-accept.ensures.number_value in
-    record { settings_are_sound = (accepted _ _ _ h).settings; registry = registry_known _ _ _ h }
+    record { registry = registry_known _ _ _ (sym c.in_ok-accept.ensures.number_value) }
 
 pub process_pending_balance_deposits-after-requires : goal.process_pending_balance_deposits-after-requires
 process_pending_balance_deposits-after-requires c =
     let a = c.args in
     let h = accepted _ _ _ (sym c.in_ok-accept.ensures.number_value) in
     record {
-      settings_are_sound = h.settings;
       room = h.room;
       books_are_sound = h.books;
       allowance_is_limit = c.get_activation_exit_churn_limit-allowance.ensures a.identities.now a.deposits.now

@@ -10,10 +10,12 @@ returns-in_err-accept c =
     let e : c.from_residual.result ≡ Err c.in_err-accept.field-0.0 = search rules in
     rw e (handed_refused _ _ _ _ _ c.in_err-accept.ensures.number_value (refusal_not_0 _))
 
+pub invariant_of-sound : goal.invariant_of-sound
+invariant_of-sound c = record { sound = (accepted _ _ _ (sym c.in_ok-accept.ensures.number_value)).settings }
+
 pub process_effective_balance_updates-after-requires : goal.process_effective_balance_updates-after-requires
 process_effective_balance_updates-after-requires c =
-    let h = sym c.in_ok-accept.ensures.number_value in
-    record { settings_are_sound = (accepted _ _ _ h).settings; updates_ready = updates_known _ _ _ h }
+    updates_known _ _ _ (sym c.in_ok-accept.ensures.number_value)
 
 pub returns : goal.returns
 returns c =

@@ -8,9 +8,9 @@ use Rattle.epoch_processing.proofs.effective_balances.process_effective_balance_
 
 pub update_effective_balance-requires : goal.update_effective_balance-requires
 update_effective_balance-requires c =
-    let S = settings_of c.args.settings in
-    let sound = settings_sound S c.requires.settings_are_sound in
-    let r = c.requires.updates_ready in
+    let S = settings_of c.args.sound.settings in
+    let sound = settings_sound S c.args.sound.sound in
+    let r = c.requires in
     let l = c.loop-i in
     let more = c.loop-i-test.true in
     let band = c.of-band.ensures in
@@ -41,7 +41,7 @@ returns c =
     let a = c.args in
     let l = c.loop-i in
     record {
-      stepped = updating_end (settings_of a.settings) a.scalars a.identities.now a.validators.now _ l.i
+      stepped = updating_end (settings_of a.sound.settings) a.scalars a.identities.now a.validators.now _ l.i
           c.loop-i-test.false l.invariant;
       scalars_kept = refl;
     }

@@ -4,4 +4,4 @@ use Rattle.epoch_processing.proofs.effective_balances.process_effective_balance_
 
 abbrev pub invariant-loop-i : goal.invariant-loop-i
 invariant-loop-i l =
-    Updating (settings_of l.settings) l.scalars.validators l.identities l.initial.validators l.validators l.i
+    Updating (settings_of l.sound.settings) l.scalars.validators l.identities l.initial.validators l.validators l.i

@@ -6,21 +6,21 @@ use Rattle.file_acceptance.proofs.amounts.sum.Goals as goal
 pub returns-in_err-amount : goal.returns-in_err-amount
 returns-in_err-amount g c =
     let l = c.loop-i in
-    let fails = rw c.WORDS.ensures at c.in_err-amount.ensures in
+    let fails = rw (c.behind.ensures, c.WORDS.ensures) at c.in_err-amount.ensures in
     rw c.from_residual.ensures (tested_stop _ _ _ _ l.i l.sum _ l.invariant.left (omega arith) fails)
 
 pub returns-then-amount-sum : goal.returns-then-amount-sum
 returns-then-amount-sum g c =
     let l = c.loop-i in
     let a = c.in_ok-amount in
-    let passes = rw c.WORDS.ensures at a.ensures in
+    let passes = rw (c.behind.ensures, c.WORDS.ensures) at a.ensures in
     tested_over _ _ _ _ l.i l.sum _ l.invariant.left (omega arith) a.amount.0 passes.1 (omega arith)
 
 pub loop-i-preserved : goal.loop-i-preserved
 loop-i-preserved g c =
     let l = c.loop-i in
     let a = c.in_ok-amount in
-    let passes = rw c.WORDS.ensures at a.ensures in
+    let passes = rw (c.behind.ensures, c.WORDS.ensures) at a.ensures in
     record {
       small = omega arith;
       left = tested_more _ _ _ _ l.i l.sum _ l.invariant.left (omega arith) passes.0 a.amount.0 passes.1;

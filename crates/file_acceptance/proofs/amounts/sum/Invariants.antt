@@ -11,7 +11,7 @@ use Rattle.file_acceptance.proofs.amounts.sum.Given as goal
 abbrev pub invariant-loop-i : goal.invariant-loop-i
 invariant-loop-i g l =
     let A = g.A.Amounts in
-    let xs = records_from A.format A.WORDS l.k l.m (words l.file) in
+    let xs = records_from A.format A.WORDS l.m (words l.records) in
     record {
       small : l.sum ≤ BOUND;
       left :

@@ -17,14 +17,15 @@ returns-then-not-read_fits c =
     c.args.settings.now c.args.scalars.now c.read_fits.ensures (ap not c.if-not-read_fits.true)
     c.unfit_answer.ensures
 
-pub returns-then-opened-ne-DONE : goal.returns-then-opened-ne-DONE
-returns-then-opened-ne-DONE c =
+pub returns-in-Err : goal.returns-in-Err
+returns-in-Err c =
     let lent = tables c.args.identities.now c.args.validators.now c.args.deposits.now c.args.partials.now
     c.args.consolidations.now in
-    read_refused c.args.file.now
+    rw c.number.ensures
+    (read_refused c.args.file.now
     lent
     c.args.settings.now c.args.scalars.now c.read_fits.ensures (ap not c.if-not-read_fits.false)
-    c.read_books-opened.ensures c.if-opened-ne-DONE.true
+    c.in-Err.ensures)
 
 pub store_settings-requires : goal.store_settings-requires
 store_settings-requires c =
@@ -39,12 +40,12 @@ store_scalars-requires c =
     others
     c.read_fits.ensures (ap not c.if-not-read_fits.false)
 
-pub returns : goal.returns
-returns c =
+pub returns-in-Ok : goal.returns-in-Ok
+returns-in-Ok c =
     let lent = tables c.args.identities.now c.args.validators.now c.args.deposits.now c.args.partials.now
     c.args.consolidations.now in
     read_done c.args.file.now
     lent
     c.args.settings.now c.args.scalars.now c.read_fits.ensures (ap not c.if-not-read_fits.false)
-    c.read_books-opened.ensures c.if-opened-ne-DONE.false c.store_settings.ensures
+    c.in-Ok.ensures c.store_settings.ensures
     c.store_scalars.ensures

@@ -11,7 +11,8 @@ returns-then-not-scalars_fit c =
     c.scalars_fit.ensures (ap not c.if-not-scalars_fit.true) c.unfit_answer.ensures
 
 pub scalars_from-numbers-requires : goal.scalars_from-numbers-requires
-scalars_from-numbers-requires c = fit_room c.args.scalars.now [] c.scalars_fit.ensures (ap not c.if-not-scalars_fit.false)
+scalars_from-numbers-requires c =
+    fit_room c.args.scalars.now [] c.scalars_fit.ensures (ap not c.if-not-scalars_fit.false)
 
 pub returns-in-Err : goal.returns-in-Err
 returns-in-Err c =

@@ -12,5 +12,6 @@ abbrev pub invariant-loop-i : goal.invariant-loop-i
 invariant-loop-i l =
     (ids : List ℕ)
     → l.sum
-    + total (active_effective_balance l.epoch.0) (drop l.i (rows l.fn.scalars.validators (validator_at ids l.validators)))
+    + total (active_effective_balance l.epoch.0)
+    (drop l.i (rows l.fn.scalars.validators (validator_at ids l.validators)))
     ≡ total (active_effective_balance l.epoch.0) (rows l.fn.scalars.validators (validator_at ids l.validators))

@@ -18,7 +18,7 @@ unfolding books_of
 near c =
     let e = c.compute_activation_exit_epoch-activation_exit.ensures (tables [] [] [] [] []) in
     let h : c.compute_activation_exit_epoch-activation_exit.result.0 ≤ BOUND + 2 ^ 17 =
-    omega (arith, (settings_sound _ c.requires.settings_are_sound).lookahead) in
+    omega (arith, (settings_sound _ c.args.sound.sound).lookahead) in
     assigned_near c.args.account.balance_to_consume.0 c.args.account.earliest_epoch.0
     c.compute_activation_exit_epoch-activation_exit.result.0
     c.args.churn.0 c.args.amount.0 c.requires.epochs_bound.1 h c.requires.churn_and_amount.1

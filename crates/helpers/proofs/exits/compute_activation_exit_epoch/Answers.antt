@@ -5,7 +5,7 @@ use Rattle.records.specs.Books.{books_of}
 use Rattle.helpers.proofs.exits.compute_activation_exit_epoch.Goals as goal
 
 pub overflow_add-result-2 : goal.overflow_add-result-2
-overflow_add-result-2 c = omega (arith, (settings_sound _ c.requires.settings_are_sound).lookahead)
+overflow_add-result-2 c = omega (arith, (settings_sound _ c.args.sound.sound).lookahead)
 
 pub returns : goal.returns
 unfolding books_of

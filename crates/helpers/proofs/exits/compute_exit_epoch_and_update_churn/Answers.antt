@@ -13,7 +13,7 @@ pub assign_account-requires-clause-churn_and_amount : goal.assign_account-requir
 assign_account-requires-clause-churn_and_amount c =
     let a = c.args in
     let b = books_of a.scalars (tables [] a.validators.now [] [] []) in
-    let some = activation_exit_churn_some (settings_of a.settings) b (settings_sound _ c.requires.settings_are_sound) in
+    let some = activation_exit_churn_some (settings_of a.sound.settings) b (settings_sound _ c.args.sound.sound) in
     let churn = c.get_activation_exit_churn_limit-churn.ensures [] [] [] [] in
     (omega arith, c.requires.amount_bound)
 
@@ -24,7 +24,7 @@ returns-clause-assigned c ids ds ps cs =
     let t = tables ids a.validators.now ds ps cs in
     let left = a.scalars.exit_balance_to_consume.0 in
     let earliest = a.scalars.earliest_exit_epoch.0 in
-    let activation_exit = compute_activation_exit_epoch (settings_of a.settings) (books_of a.scalars t) in
+    let activation_exit = compute_activation_exit_epoch (settings_of a.sound.settings) (books_of a.scalars t) in
     c.assign_account.ensures.assigned t
     ∙ ap (λ (n : ℕ). assign_epoch left earliest activation_exit n a.amount.0)
     (c.get_activation_exit_churn_limit-churn.ensures ids ds ps cs)

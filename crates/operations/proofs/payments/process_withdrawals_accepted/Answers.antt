@@ -43,16 +43,18 @@ returns-then-next-gt-BOUND c =
     omega (arith, c.next_index-next.ensures lent, c.if-next-gt-BOUND.true) in
     payments_late _ _ _ _ c.requires (sym compared) over
 
+pub invariant_of-sound : goal.invariant_of-sound
+invariant_of-sound c = record { sound = (accepted _ _ _ c.requires).settings }
+
 pub process_withdrawals-after-requires : goal.process_withdrawals-after-requires
 process_withdrawals-after-requires c =
     let listed = c.get_expected_withdrawals-expected.ensures in
     let compared = c.in_ok-withdrawals_refusal.ensures _ _ listed in
     let k = accepted _ _ _ c.requires in record {
-      settings_value = k.settings;
-      consolidations_value = k.room;
-      consolidations_value_2 = k.books;
+      room = k.room;
+      books_are_sound = k.books;
       expected_value = listed;
-      consolidations_value_3 = expected_same _ _ _ _ c.requires (sym compared);
+      same = expected_same _ _ _ _ c.requires (sym compared);
     }
 
 pub returns : goal.returns

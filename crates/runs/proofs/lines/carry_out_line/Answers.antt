@@ -1,3 +1,4 @@
+use Rattle.std.proofs.Common.{rules}
 use mathlib.Core.Path.{refl, sym, ◌∙◌}
 use Rattle.acceptance.specs.Held.{held_form}
 use Rattle.file_calls.specs.Laws.{code_written, sum_small}
@@ -21,19 +22,16 @@ held_after-total-requires c =
     let sums = followed_in call.ensures c.requires.holds (sum_small _ _ _ left refl)
     (c.penalty_taken-taken.ensures _ _ _ _) in
     rw (c.unwrap_or-after.ensures, c.answer_number-number.ensures)
-    (record {
-      held_ready = sum_known _ _ _ left;
-      call_at = c.requires.call_at;
-      code_read = c.code_at-code.ensures;
-      followed = sums;
-    })
+    (record { held_ready = sum_known _ _ _ left; kind_read = c.kind-kind.ensures; followed = sums })
 
+-- `search` finds that a kind is cast to its code
 pub returns : goal.returns
 returns c =
-    let code = c.code_at-code.ensures ∙ sym (code_written c.requires.call_at) in
+    let code = code_written _ _ c.kind-kind.ensures in
     let total = c.held_after-total.ensures ∙ sym (held_form _ _) in
-    let called = rw (← c.unwrap_or-after.ensures, ← c.answer_number-number.ensures) at c.carry_out_call-answer.ensures in
+    let called =
+    rw (← c.unwrap_or-after.ensures, ← c.answer_number-number.ensures) at c.carry_out_call-answer.ensures in
     record {
-      written = line_written c.answer_number-number.result called c.put_line.ensures code total;
+      written = line_written c.answer_number-number.result called c.put_line.ensures (search rules ∙ code) total;
       still_holds = total;
     }

@@ -1,25 +1,21 @@
 use mathlib.Core.Path.{sym, ap, ◌∙◌}
 use Prim.Native.Nat.{min}
-use native.Mathlib.Omega.{arith}
+use Rattle.calls_reader.specs.Plain.{kind_code}
 use Rattle.runs.specs.Sums.{other_taken, penalty_beyond, penalty_within}
 use Rattle.runs.proofs.sums.penalty_taken.Goals as goal
 
-pub returns-then-code-ne2 : goal.returns-then-code-ne2
-returns-then-code-ne2 c =
-    λ ids ds ps cs. other_taken c.requires.call_at (λ e. c.if-code-ne2.true (c.requires.code_read ∙ e)) _
+pub returns-in_default : goal.returns-in_default
+returns-in_default c = λ ids ds ps cs. other_taken _ c.requires.kind_read c.in_default.not-Penalty _
 
-pub returns-then-scalars-i : goal.returns-then-scalars-i
-returns-then-scalars-i c =
+pub returns-then-scalars-penalty : goal.returns-then-scalars-penalty
+returns-then-scalars-penalty c =
     λ ids ds ps cs.
-    penalty_beyond _ _ _ _ _ (c.amount_at-call.ensures.1 (sym c.requires.code_read ∙ c.if-code-ne2.false))
-    c.if-scalars-i.true
+    penalty_beyond _ _ _ _ _ (c.amount-penalty.ensures.1 (sym c.requires.kind_read ∙ ap kind_code c.in-Penalty.is))
+    c.if-scalars-penalty.true
 
-pub balance_at-balance-requires : goal.balance_at-balance-requires
-balance_at-balance-requires c = omega (arith, c.requires.validators_stored, c.if-scalars-i.false)
-
-pub returns : goal.returns
-returns c =
+pub returns-else-scalars-penalty : goal.returns-else-scalars-penalty
+returns-else-scalars-penalty c =
     λ ids ds ps cs.
-    penalty_within _ _ _ _ _ (c.amount_at-call.ensures.1 (sym c.requires.code_read ∙ c.if-code-ne2.false))
-    (omega (arith, c.if-scalars-i.false))
+    penalty_within _ _ _ _ _ (c.amount-penalty.ensures.1 (sym c.requires.kind_read ∙ ap kind_code c.in-Penalty.is))
+    c.if-scalars-penalty.false
     (c.min.ensures ∙ ap (min _) c.balance_at-balance.ensures)

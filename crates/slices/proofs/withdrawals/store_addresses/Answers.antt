@@ -17,9 +17,5 @@ loop-i-preserved c =
     let d : (20 * i + k) / 20 ≡ i = omega arith in
     let m : (20 * i + k) % 20 ≡ k = omega arith in
     rw (copied.after, d, m) in
-    rw (← onward) (front_part _ _ (omega arith) (omega arith) copied.len (λ k h. here k (omega arith)) c.loop-i.invariant)
-
-pub returns : goal.returns
-returns c =
-    let e : c.loop-i.i ≡ 16 = omega arith in
-    rw e at c.loop-i.invariant.words
+    rw (← onward) (front_part _ _ (omega arith) (omega arith) copied.len (λ k h. here k (omega arith))
+    c.loop-i.invariant)

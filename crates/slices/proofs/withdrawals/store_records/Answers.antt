@@ -25,9 +25,5 @@ loop-i-preserved c =
     let d : (3 * i + k) / 3 ≡ i = omega arith in
     let m : (3 * i + k) % 3 ≡ k = omega arith in
     rw (copied.after, d, m) (part_at (record_of list i) k h) in
-    rw (← onward) (front_part _ _ (omega arith) (omega arith) copied.len (λ k h. here k (omega arith)) c.loop-i.invariant)
-
-pub returns : goal.returns
-returns c =
-    let e : c.loop-i.i ≡ 16 = omega arith in
-    rw e at c.loop-i.invariant.words
+    rw (← onward) (front_part _ _ (omega arith) (omega arith) copied.len (λ k h. here k (omega arith))
+    c.loop-i.invariant)

@@ -11,7 +11,8 @@ use Rattle.solarbasil.proofs.deposit_receipts.solarbasil_process_deposit_receipt
 
 pub returns-then-not-receipt_fits : goal.returns-then-not-receipt_fits
 returns-then-not-receipt_fits c =
-    exported_unfit c.settings_from-chain.ensures c.receipt_fits.ensures (ap not c.if-not-receipt_fits.true) c.unfit_answer.ensures
+    exported_unfit c.settings_from-chain.ensures c.receipt_fits.ensures (ap not c.if-not-receipt_fits.true)
+    c.unfit_answer.ensures
 
 pub scalars_from-before-requires : goal.scalars_from-before-requires
 scalars_from-before-requires c =

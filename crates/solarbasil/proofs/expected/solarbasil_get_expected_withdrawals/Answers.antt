@@ -19,8 +19,17 @@ returns-then-not-expected_fit c =
     c.args.consolidations.now in
     let others = leb 48 (length c.args.records.now) ∷ leb 320 (length c.args.addresses.now) ∷ [] in
     let z : c.unfit_answer.result ≡ 0 → ⊥ = λ e. unfit_refused _ (sym c.unfit_answer.ensures ∙ e) in
-    let a = asked_unfit c.args.settings.now others lent c.args.scalars.now c.settings_from-chain.ensures c.expected_fit.ensures (ap not c.if-not-expected_fit.true) c.unfit_answer.ensures in
-    record { answer = a; records_given = given_refused _ z; addresses_given = given_refused _ z; count_given = given_refused _ z; partial_count_given = given_refused _ z }
+    let a =
+    asked_unfit c.args.settings.now others lent c.args.scalars.now c.settings_from-chain.ensures
+    c.expected_fit.ensures (ap not c.if-not-expected_fit.true) c.unfit_answer.ensures in
+    record {
+      answer = a;
+      records_given = given_refused _ z;
+      addresses_given = given_refused _ z;
+      count_given =
+          given_refused _ z;
+      partial_count_given = given_refused _ z;
+    }
 
 pub scalars_from-before-requires : goal.scalars_from-before-requires
 scalars_from-before-requires c =

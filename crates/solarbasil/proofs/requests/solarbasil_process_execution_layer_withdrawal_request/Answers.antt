@@ -11,7 +11,8 @@ use Rattle.solarbasil.proofs.requests.solarbasil_process_execution_layer_withdra
 
 pub returns-then-not-request_fits : goal.returns-then-not-request_fits
 returns-then-not-request_fits c =
-    exported_unfit c.settings_from-chain.ensures c.request_fits.ensures (ap not c.if-not-request_fits.true) c.unfit_answer.ensures
+    exported_unfit c.settings_from-chain.ensures c.request_fits.ensures (ap not c.if-not-request_fits.true)
+    c.unfit_answer.ensures
 
 pub scalars_from-before-requires : goal.scalars_from-before-requires
 scalars_from-before-requires c =

@@ -20,7 +20,8 @@ returns-then-not-scalars_fit c =
     }
 
 pub scalars_from-before-requires : goal.scalars_from-before-requires
-scalars_from-before-requires c = fit_room c.args.scalars.now [] c.scalars_fit.ensures (ap not c.if-not-scalars_fit.false)
+scalars_from-before-requires c =
+    fit_room c.args.scalars.now [] c.scalars_fit.ensures (ap not c.if-not-scalars_fit.false)
 
 pub returns-in-Err : goal.returns-in-Err
 returns-in-Err c =

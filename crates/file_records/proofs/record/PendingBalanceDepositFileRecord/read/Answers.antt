@@ -1,12 +1,11 @@
-use borrow.Author.Rules.{rules}
-use Rattle.file_records.specs.Laws.{deposit_index_good, deposit_amount_good, deposit_read}
+use native.Mathlib.Omega.{arith}
+use Rattle.file_format.specs.Books.{deposit}
 use Rattle.file_records.proofs.record.PendingBalanceDepositFileRecord.read.Goals as goal
 
-pub number_at-requires : goal.number_at-requires
-number_at-requires c = search (deposit_index_good, rules)
-
-pub number_at-requires-2 : goal.number_at-requires-2
-number_at-requires-2 c = search (deposit_amount_good, rules)
+pub numbers_at-requires : goal.numbers_at-requires
+unfolding deposit
+numbers_at-requires c = (omega arith, c.requires)
 
 pub returns : goal.returns
-returns c = search (deposit_read, rules)
+unfolding deposit
+returns c = rw c.numbers_at.ensures

@@ -1,12 +1,11 @@
-use borrow.Author.Rules.{rules}
-use Rattle.file_records.specs.Laws.{consolidation_source_good, consolidation_target_good, consolidation_read}
+use native.Mathlib.Omega.{arith}
+use Rattle.file_format.specs.Books.{consolidation}
 use Rattle.file_records.proofs.record.PendingConsolidationFileRecord.read.Goals as goal
 
-pub number_at-requires : goal.number_at-requires
-number_at-requires c = search (consolidation_source_good, rules)
-
-pub number_at-requires-2 : goal.number_at-requires-2
-number_at-requires-2 c = search (consolidation_target_good, rules)
+pub numbers_at-requires : goal.numbers_at-requires
+unfolding consolidation
+numbers_at-requires c = (omega arith, c.requires)
 
 pub returns : goal.returns
-returns c = search (consolidation_read, rules)
+unfolding consolidation
+returns c = rw c.numbers_at.ensures

@@ -1,15 +1,11 @@
-use borrow.Author.Rules.{rules}
-use Rattle.file_records.specs.Laws.{partial_index_good, partial_amount_good, partial_epoch_good, partial_read}
+use native.Mathlib.Omega.{arith}
+use Rattle.file_format.specs.Books.{partial}
 use Rattle.file_records.proofs.record.PendingPartialWithdrawalFileRecord.read.Goals as goal
 
-pub number_at-requires : goal.number_at-requires
-number_at-requires c = search (partial_index_good, rules)
-
-pub number_at-requires-2 : goal.number_at-requires-2
-number_at-requires-2 c = search (partial_amount_good, rules)
-
-pub number_at-requires-3 : goal.number_at-requires-3
-number_at-requires-3 c = search (partial_epoch_good, partial_amount_good, rules)
+pub numbers_at-requires : goal.numbers_at-requires
+unfolding partial
+numbers_at-requires c = (omega arith, c.requires)
 
 pub returns : goal.returns
-returns c = search (partial_read, rules)
+unfolding partial
+returns c = rw c.numbers_at.ensures
