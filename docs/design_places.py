@@ -1,7 +1,9 @@
 #!/usr/bin/env python3
-"""The places of docs/DESIGN-PASS.md in crates/*/src, point by point: python3 docs/design_places.py [--list] [COMMIT]
+"""The places of docs/DESIGN-PASS.md in crates/*/src, point by point: python3 docs/design_places.py [OPTION] [COMMIT]
 
-With a commit the tree of that commit is counted, else the files as they lie. --list prints each place.
+With a commit the tree of that commit is counted, else the files as they lie. --list prints each place. --kept prints
+each place with the line that says why it stays, and counts those that have none: the line stands in the comment above
+the place, or in a comment of its own, with an empty line behind it, for the whole file.
 """
 import collections
 import re
@@ -146,9 +148,45 @@ def places(commit):
     return found
 
 
+def reason(text, line):
+    """Why the item of this line stays: a comment above it, or one for the whole file."""
+    lines = text.split("\n")
+    above = []
+    i = line - 2
+    while i >= 0 and re.match(r"\s*(//|#\[|\)\]|  +crate::)", lines[i]):
+        above.insert(0, lines[i].strip())
+        i -= 1
+    blocks = [above]
+    for block in text.split("\n\n"):
+        rows = [r.strip() for r in block.strip("\n").split("\n")]
+        if all(r.startswith("//") for r in rows):
+            blocks.append(rows)
+    for block in blocks:
+        words = " ".join(r.lstrip("/ ") for r in block if r.startswith("//"))
+        for sentence in re.split(r"(?<=[.;]) (?=[A-Z])", words):
+            if re.search(r"\bstays?\b", sentence):
+                return sentence
+    return None
+
+
+def kept(found):
+    texts = dict(sources(None))
+    without = 0
+    for point, words in POINTS.items():
+        print(f"{point}. {words}")
+        for name, line, what in sorted(found[point]):
+            why = reason(texts[name], line)
+            without += why is None
+            print(f"   {name}:{line}: {what}\n      {why or 'NO REASON'}")
+    print(f"places with no reason: {without}")
+
+
 def main():
-    args = [a for a in sys.argv[1:] if a != "--list"]
+    args = [a for a in sys.argv[1:] if not a.startswith("--")]
     found = places(args[0] if args else None)
+    if "--kept" in sys.argv:
+        kept(found)
+        return
     for point, words in POINTS.items():
         print(f"{point}. {words}: {len(found[point])}")
         if "--list" in sys.argv:
