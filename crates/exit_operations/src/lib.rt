@@ -11,7 +11,6 @@ ghost use Rattle.rule_laws.specs.Accepted.{SoundBooks};
 ghost use Rattle.primitives.specs.Answers.{answer_number, answer_or};
 ghost use Rattle.primitives.specs.Settings.{settings_of};
 ghost use Rattle.records.specs.Layout.{exit_epoch_at, identities_fit};
-ghost use Rattle.records.specs.Lent.{plain_books};
 ghost use Rattle.records.specs.Books.{tables, books_of, room_of, Called};
 ghost use Rattle.helpers.specs.Ready.{Registry, Accounts, Partials};
 ghost use Rattle.call_answers.specs.Answers.{Judged};
@@ -61,8 +60,12 @@ pub fn voluntary_exit_refusal(
     requires registry { Registry books.now.scalars books.now.validators.now }
     requires accounts { Accounts books.now.scalars }
     requires partials { Partials books.now.scalars books.now.partials.now }
-    ensures { answer_number result
-        ≡ voluntary_exit_refusal (settings_of sound.settings) (plain_books books.now) i.0 epoch.0 valid }
+    ensures { (ds cs : List ℕ)
+        → answer_number result
+        ≡ voluntary_exit_refusal (settings_of sound.settings)
+        (books_of books.now.scalars
+        (tables books.now.identities.now books.now.validators.now ds books.now.partials.now cs))
+        i.0 epoch.0 valid }
 {
     let scalars = books.scalars;
     let current_epoch = scalars.epoch;

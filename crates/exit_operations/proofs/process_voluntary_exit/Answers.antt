@@ -33,7 +33,8 @@ pub returns-in_err-voluntary_exit_refusal : goal.returns-in_err-voluntary_exit_r
 unfolding own_refusal
 returns-in_err-voluntary_exit_refusal c =
     let e : c.from_residual.result ≡ Err c.in_err-voluntary_exit_refusal.field-0.0 = search rules in
-    rw e (own_refused _ _ _ _ _ c.requires (c.in_err-voluntary_exit_refusal.ensures) (refusal_not_0 _))
+    rw e (own_refused _ _ _ _ _ c.requires
+    (c.in_err-voluntary_exit_refusal.ensures c.args.deposits.now c.args.consolidations.now) (refusal_not_0 _))
 
 pub exit_within_bound-requires : goal.exit_within_bound-requires
 exit_within_bound-requires c =
@@ -48,7 +49,7 @@ exit_within_bound-requires c =
       accounts = accounts_ready S a.scalars held f.settings f.room f.books;
       not_begun =
           exit_allowed S a.scalars held a.i.0 a.epoch.0 a.valid
-          (sym (c.in_ok-voluntary_exit_refusal.ensures));
+          (sym (c.in_ok-voluntary_exit_refusal.ensures a.deposits.now a.consolidations.now));
     }
 
 pub returns : goal.returns
@@ -60,7 +61,7 @@ returns c =
     let f = facts (settings_of c.args.settings) c.args.scalars held c.requires in
     let a = c.args in
     judged_called {op = voluntary_exit a.i.0 a.epoch.0 a.valid} c.requires
-    (sym (c.in_ok-voluntary_exit_refusal.ensures))
+    (sym (c.in_ok-voluntary_exit_refusal.ensures a.deposits.now a.consolidations.now))
     (judged_as _ refl
     (c.exit_within_bound.ensures a.identities.now a.deposits.now a.partials.now
     a.consolidations.now f.books))

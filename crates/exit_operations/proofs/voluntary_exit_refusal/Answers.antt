@@ -8,22 +8,25 @@ use Rattle.lists.specs.Laws.{both}
 use Rattle.rule_laws.specs.Accepted.{settings_sound}
 use Rattle.primitives.specs.Settings.{settings_of}
 use Rattle.records.specs.Plain.{plain_validator}
-use Rattle.records.specs.Lent.{lent_tables}
+use Rattle.records.specs.Books.{tables}
 use Rattle.call_answers.specs.Tests.{fails, passes, differs, agrees}
 use Rattle.exit_operations.specs.Exits.{exit_tests, exit_unknown, exit_known}
 use Rattle.exit_operations.proofs.voluntary_exit_refusal.Goals as goal
 
 pub returns-then-scalars-i : goal.returns-then-scalars-i
 returns-then-scalars-i c =
+    λ ds cs.
     let a = c.args in
-    exit_unknown (settings_of a.sound.settings) a.books.now.scalars (lent_tables a.books.now)
-    a.i.0 a.epoch.0 a.valid c.if-scalars-i.true
+    let t = tables a.books.now.identities.now a.books.now.validators.now ds a.books.now.partials.now cs in
+    exit_unknown (settings_of a.sound.settings) a.books.now.scalars t a.i.0 a.epoch.0 a.valid c.if-scalars-i.true
 
 pub returns-then-not-is_active_validator : goal.returns-then-not-is_active_validator
 unfolding exit_tests
 returns-then-not-is_active_validator c =
+    λ ds cs.
     let a = c.args in
-    exit_known (settings_of a.sound.settings) a.books.now.scalars (lent_tables a.books.now)
+    let t = tables a.books.now.identities.now a.books.now.validators.now ds a.books.now.partials.now cs in
+    exit_known (settings_of a.sound.settings) a.books.now.scalars t
     a.i.0 a.epoch.0 a.valid (plain_validator c.validator_at-v.result) _ c.if-scalars-i.false
     c.validator_at-v.ensures refl
     (fails _ _ (ap not (sym c.is_active_validator.ensures ∙ c.if-not-is_active_validator.true)))
@@ -31,8 +34,10 @@ returns-then-not-is_active_validator c =
 pub returns-then-v : goal.returns-then-v
 unfolding exit_tests
 returns-then-v c =
+    λ ds cs.
     let a = c.args in
-    exit_known (settings_of a.sound.settings) a.books.now.scalars (lent_tables a.books.now)
+    let t = tables a.books.now.identities.now a.books.now.validators.now ds a.books.now.partials.now cs in
+    exit_known (settings_of a.sound.settings) a.books.now.scalars t
     a.i.0 a.epoch.0 a.valid (plain_validator c.validator_at-v.result) _ c.if-scalars-i.false
     c.validator_at-v.ensures refl
     (passes _ _ (ap not (sym c.is_active_validator.ensures ∙ c.if-not-is_active_validator.false))
@@ -41,8 +46,10 @@ returns-then-v c =
 pub returns-then-current_epoch-epoch : goal.returns-then-current_epoch-epoch
 unfolding exit_tests
 returns-then-current_epoch-epoch c =
+    λ ds cs.
     let a = c.args in
-    exit_known (settings_of a.sound.settings) a.books.now.scalars (lent_tables a.books.now)
+    let t = tables a.books.now.identities.now a.books.now.validators.now ds a.books.now.partials.now cs in
+    exit_known (settings_of a.sound.settings) a.books.now.scalars t
     a.i.0 a.epoch.0 a.valid (plain_validator c.validator_at-v.result) _ c.if-scalars-i.false
     c.validator_at-v.ensures refl
     (passes _ _ (ap not (sym c.is_active_validator.ensures ∙ c.if-not-is_active_validator.false))
@@ -63,8 +70,10 @@ overflow_add-v c =
 pub returns-then-current_epoch-v : goal.returns-then-current_epoch-v
 unfolding exit_tests
 returns-then-current_epoch-v c =
+    λ ds cs.
     let a = c.args in
-    exit_known (settings_of a.sound.settings) a.books.now.scalars (lent_tables a.books.now)
+    let t = tables a.books.now.identities.now a.books.now.validators.now ds a.books.now.partials.now cs in
+    exit_known (settings_of a.sound.settings) a.books.now.scalars t
     a.i.0 a.epoch.0 a.valid (plain_validator c.validator_at-v.result) _ c.if-scalars-i.false
     c.validator_at-v.ensures refl
     (passes _ _ (ap not (sym c.is_active_validator.ensures ∙ c.if-not-is_active_validator.false))
@@ -75,12 +84,13 @@ returns-then-current_epoch-v c =
 pub returns-then-pending-ne0 : goal.returns-then-pending-ne0
 unfolding exit_tests
 returns-then-pending-ne0 c =
+    λ ds cs.
     let a = c.args in
-    exit_known (settings_of a.sound.settings) a.books.now.scalars (lent_tables a.books.now)
+    let t = tables a.books.now.identities.now a.books.now.validators.now ds a.books.now.partials.now cs in
+    exit_known (settings_of a.sound.settings) a.books.now.scalars t
     a.i.0 a.epoch.0 a.valid (plain_validator c.validator_at-v.result) _ c.if-scalars-i.false
     c.validator_at-v.ensures
-    (c.get_pending_balance_to_withdraw-pending.ensures a.books.now.identities.now a.books.now.validators.now
-    a.books.now.deposits.now a.books.now.consolidations.now)
+    (c.get_pending_balance_to_withdraw-pending.ensures a.books.now.identities.now a.books.now.validators.now ds cs)
     (passes _ _ (ap not (sym c.is_active_validator.ensures ∙ c.if-not-is_active_validator.false))
     (passes _ _ (agrees _ _ c.if-v.false)
     (passes _ _ (le-ltb _ _ c.if-current_epoch-epoch.false)
@@ -90,12 +100,13 @@ returns-then-pending-ne0 c =
 pub returns-then-not-valid : goal.returns-then-not-valid
 unfolding exit_tests
 returns-then-not-valid c =
+    λ ds cs.
     let a = c.args in
-    exit_known (settings_of a.sound.settings) a.books.now.scalars (lent_tables a.books.now)
+    let t = tables a.books.now.identities.now a.books.now.validators.now ds a.books.now.partials.now cs in
+    exit_known (settings_of a.sound.settings) a.books.now.scalars t
     a.i.0 a.epoch.0 a.valid (plain_validator c.validator_at-v.result) _ c.if-scalars-i.false
     c.validator_at-v.ensures
-    (c.get_pending_balance_to_withdraw-pending.ensures a.books.now.identities.now a.books.now.validators.now
-    a.books.now.deposits.now a.books.now.consolidations.now)
+    (c.get_pending_balance_to_withdraw-pending.ensures a.books.now.identities.now a.books.now.validators.now ds cs)
     (passes _ _ (ap not (sym c.is_active_validator.ensures ∙ c.if-not-is_active_validator.false))
     (passes _ _ (agrees _ _ c.if-v.false)
     (passes _ _ (le-ltb _ _ c.if-current_epoch-epoch.false)
@@ -106,12 +117,13 @@ returns-then-not-valid c =
 pub returns : goal.returns
 unfolding exit_tests
 returns c =
+    λ ds cs.
     let a = c.args in
-    exit_known (settings_of a.sound.settings) a.books.now.scalars (lent_tables a.books.now)
+    let t = tables a.books.now.identities.now a.books.now.validators.now ds a.books.now.partials.now cs in
+    exit_known (settings_of a.sound.settings) a.books.now.scalars t
     a.i.0 a.epoch.0 a.valid (plain_validator c.validator_at-v.result) _ c.if-scalars-i.false
     c.validator_at-v.ensures
-    (c.get_pending_balance_to_withdraw-pending.ensures a.books.now.identities.now a.books.now.validators.now
-    a.books.now.deposits.now a.books.now.consolidations.now)
+    (c.get_pending_balance_to_withdraw-pending.ensures a.books.now.identities.now a.books.now.validators.now ds cs)
     (passes _ _ (ap not (sym c.is_active_validator.ensures ∙ c.if-not-is_active_validator.false))
     (passes _ _ (agrees _ _ c.if-v.false)
     (passes _ _ (le-ltb _ _ c.if-current_epoch-epoch.false)
