@@ -9,7 +9,8 @@ use Rattle.lists.specs.Laws.{passed, not_not}
 use Rattle.rules.specs.Types.{FAR, BOUND, Settings, Validator, PendingConsolidation, Books}
 use Rattle.rules.specs.Update.{with_exit, with_consolidation_churn, with_validators, with_pending_consolidations}
 use Rattle.rules.specs.Helpers.{at, count, Assignment, withdrawal_address, is_active_validator}
-use Rattle.rules.specs.Helpers.{has_execution_withdrawal_credential, get_consolidation_churn_limit}
+use Rattle.rules.specs.Helpers.{has_execution_withdrawal_credential, get_total_active_balance}
+use Rattle.rules.specs.Helpers.{get_balance_churn_limit, get_activation_exit_churn_limit, get_consolidation_churn_limit}
 use Rattle.rules.specs.Helpers.{compute_consolidation_epoch_and_update_churn}
 use Rattle.rules.specs.BlockProcessing.{consolidation_refusal, process_consolidation}
 use Rattle.rules.specs.Calls.{size_refusal}
@@ -18,10 +19,12 @@ use Rattle.result_sizes.specs.Size.{size_number}
 use Rattle.result_sizes.specs.Block.{consolidation_size}
 use Rattle.primitives.specs.declared.Scalars.{Scalars}
 use Rattle.primitives.specs.Scalars as scalars
+use Rattle.records.specs.declared.books.Books as lent
 use Rattle.records.specs.Layout.{validator_at, effective_balance_at}
 use Rattle.records.specs.Stores.{ValidatorAdjusted}
 use Rattle.records.specs.Queues.{ConsolidationPushed}
 use Rattle.records.specs.Books.{Tables, tables, books_of, Stepped}
+use Rattle.records.specs.Lent.{plain_books}
 use Rattle.records.specs.Reading.{validators_count, consolidations_count, validator_read}
 use Rattle.helpers.specs.Exits.{consolidation_assignment, consolidation_by_churn}
 
@@ -50,6 +53,16 @@ index_refusal S queued churn validators source target rest =
     else when not (ltb source validators) then 10
     else when not (ltb target validators) then 10
     else rest
+
+-- the churn looks at no queue: where the lent books' is known, so is that of books with other words in the queues
+pub churn_known : (S : Settings) (b : lent.Books) (ds ps cs : List ℕ) {churn : ℕ}
+    → churn ≡ get_consolidation_churn_limit S (plain_books b)
+    → churn
+    ≡ get_consolidation_churn_limit S (books_of b.scalars (tables b.identities.now b.validators.now ds ps cs))
+unfolding
+    get_total_active_balance get_balance_churn_limit get_activation_exit_churn_limit get_consolidation_churn_limit
+    books_of
+churn_known S b ds ps cs e = e
 
 module _ (S : Settings) (s : Scalars) (t : Tables) (source target epoch : ℕ) (valid : Bool) where
   abbrev pub pair_read : ℕ

@@ -80,8 +80,11 @@ pub fn consolidation_refusal(
     requires tables_hold { (books.now.scalars.validators ≤ identities_fit books.now.identities.now)
         × (books.now.scalars.validators ≤ validators_fit books.now.validators.now) }
     requires churn_is { churn.0 ≡ get_consolidation_churn_limit (settings_of settings) (plain_books books.now) }
-    ensures { answer_number result
-        ≡ consolidation_refusal (settings_of settings) (plain_books books.now)
+    ensures { (ds ps cs : List ℕ)
+        → answer_number result
+        ≡ consolidation_refusal (settings_of settings)
+        (books_of books.now.scalars
+        (tables books.now.identities.now books.now.validators.now ds ps cs))
         source.0 target.0 epoch.0 valid }
 {
     let scalars = books.scalars;

@@ -50,7 +50,7 @@ returns-in_err-consolidation_refusal c =
     rw e (
     let a = c.args in
     own_refused _ _ _ _ _ c.requires
-    (c.in_err-consolidation_refusal.ensures)
+    (c.in_err-consolidation_refusal.ensures a.deposits.now a.partials.now a.consolidations.now)
     (refusal_not_0 _))
 
 pub consolidation_within_bound-requires : goal.consolidation_within_bound-requires
@@ -64,7 +64,7 @@ consolidation_within_bound-requires c =
     let churn = c.get_consolidation_churn_limit-churn.ensures in
     let allowed =
     consolidation_allowed S a.scalars held a.source.0 a.target.0 a.epoch.0 a.valid
-    (sym (c.in_ok-consolidation_refusal.ensures)) in
+    (sym (c.in_ok-consolidation_refusal.ensures a.deposits.now a.partials.now a.consolidations.now)) in
     let some : 0 < c.get_consolidation_churn_limit-churn.result.0 =
     omega (
       arith,
@@ -87,7 +87,7 @@ returns c =
     let f = facts (settings_of c.args.settings) c.args.scalars held c.requires in
     let a = c.args in
     judged_called {op = consolidation a.source.0 a.target.0 a.epoch.0 a.valid} c.requires
-    (sym (c.in_ok-consolidation_refusal.ensures))
+    (sym (c.in_ok-consolidation_refusal.ensures a.deposits.now a.partials.now a.consolidations.now))
     (judged_as _ refl
     (c.consolidation_within_bound.ensures a.identities.now a.deposits.now a.partials.now
     f.books))
