@@ -7,7 +7,7 @@ ghost use Rattle.rules.specs.BlockProcessing.{is_partial_payable, sweep_amount};
 ghost use Rattle.primitives.specs.Settings.{settings_of};
 ghost use Rattle.records.specs.Layout.{validator_at, balance_at, partial_at, identities_fit, validators_fit};
 ghost use Rattle.records.specs.Plain.{plain_partial};
-ghost use Rattle.records.specs.Lent.{plain_books};
+ghost use Rattle.records.specs.Books.{books_of, tables};
 ghost use Rattle.tables.specs.Rows.{rows};
 ghost use Rattle.expected_withdrawals.specs.Expected.{no_withdrawals, coded_withdrawal, expected_of};
 ghost use Rattle.expected_withdrawals.specs.Listing.{with_withdrawal, withdrawal_of, may_withdraw};
@@ -150,7 +150,10 @@ fn sweep_amount(settings: Settings, books: &Books<'_>, i: ValidatorIndex) -> Gwe
 fn partial_withdrawals(settings: Settings, books: &Books<'_>) -> ExpectedWithdrawals
     requires { Ready settings books.now.scalars books.now.identities.now books.now.validators.now
         books.now.partials.now }
-    ensures { result ≡ list_partials (settings_of settings) (plain_books books.now)
+    ensures { (ds cs : List ℕ)
+        → result ≡ list_partials (settings_of settings)
+        (books_of books.now.scalars
+        (tables books.now.identities.now books.now.validators.now ds books.now.partials.now cs))
         (rows books.now.scalars.partials (partial_at books.now.partials.now)) no_withdrawals }
 {
     let scalars = books.scalars;
@@ -195,7 +198,10 @@ fn sweep_withdrawals(
     listed: ExpectedWithdrawals,
 ) -> ExpectedWithdrawals
     requires { SweepReady settings books.now.scalars books.now.identities.now books.now.validators.now }
-    ensures { result ≡ list_swept (settings_of settings) (plain_books books.now)
+    ensures { (ds ps cs : List ℕ)
+        → result ≡ list_swept (settings_of settings)
+        (books_of books.now.scalars
+        (tables books.now.identities.now books.now.validators.now ds ps cs))
         (min books.now.scalars.validators settings.max_validators_per_withdrawals_sweep)
         books.now.scalars.next_withdrawal_validator_index.0 listed }
 {
@@ -224,7 +230,10 @@ fn sweep_withdrawals(
 pub fn get_expected_withdrawals(settings: Settings, books: &Books<'_>) -> ExpectedWithdrawals
     requires { Ready settings books.now.scalars books.now.identities.now books.now.validators.now
         books.now.partials.now }
-    ensures { result ≡ expected_of (settings_of settings) (plain_books books.now) }
+    ensures { (ds cs : List ℕ)
+        → result ≡ expected_of (settings_of settings)
+        (books_of books.now.scalars
+        (tables books.now.identities.now books.now.validators.now ds books.now.partials.now cs)) }
 {
     let mut e = partial_withdrawals(settings, books);
     e.partials = e.count;

@@ -14,7 +14,7 @@ returns-then-most-e c =
     let a = c.args in
     walked_full a.settings a.books.now.scalars a.books.now.identities.now a.books.now.validators.now
     a.books.now.partials.now
-    c.loop-k.invariant c.if-most-e.true a.books.now.deposits.now a.books.now.consolidations.now
+    c.loop-k.invariant c.if-most-e.true
 
 pub returns-then-scalars-p : goal.returns-then-scalars-p
 returns-then-scalars-p c =
@@ -22,7 +22,7 @@ returns-then-scalars-p c =
     walked_stop a.settings a.books.now.scalars a.books.now.identities.now a.books.now.validators.now
     a.books.now.partials.now
     c.loop-k.invariant c.loop-k-test.true
-    c.if-most-e.false c.entry_at-p.ensures c.if-scalars-p.true a.books.now.deposits.now a.books.now.consolidations.now
+    c.if-most-e.false c.entry_at-p.ensures c.if-scalars-p.true
 
 pub partial_amount-amount-requires-clause-above_least : goal.partial_amount-amount-requires-clause-above_least
 partial_amount-amount-requires-clause-above_least c =
@@ -61,4 +61,4 @@ returns c =
     let a = c.args in
     walked_end a.settings a.books.now.scalars a.books.now.identities.now a.books.now.validators.now
     a.books.now.partials.now
-    c.loop-k.invariant c.loop-k-test.false a.books.now.deposits.now a.books.now.consolidations.now
+    c.loop-k.invariant c.loop-k-test.false

@@ -11,7 +11,6 @@ returns-then-most-e c =
     let a = c.args in
     swept_full a.settings a.books.now.scalars a.books.now.identities.now a.books.now.validators.now a.listed
     c.loop-k.invariant c.if-most-e.true
-    a.books.now.deposits.now a.books.now.partials.now a.books.now.consolidations.now
 
 pub loop-k-preserved : goal.loop-k-preserved
 loop-k-preserved c =
@@ -39,4 +38,3 @@ returns c =
     let a = c.args in
     swept_all a.settings a.books.now.scalars a.books.now.identities.now a.books.now.validators.now a.listed
     c.loop-k.invariant c.loop-k-test.false
-    a.books.now.deposits.now a.books.now.partials.now a.books.now.consolidations.now

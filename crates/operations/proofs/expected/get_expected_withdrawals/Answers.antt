@@ -17,5 +17,5 @@ pub returns : goal.returns
 returns c = record {
   answered = c.in_ok-accept.ensures.number_value;
   listed = expected_known _ _ _ (sym c.in_ok-accept.ensures.number_value)
-      c.get_expected_withdrawals.ensures;
+      (c.get_expected_withdrawals.ensures c.args.books.now.deposits.now c.args.books.now.consolidations.now);
 }
