@@ -13,7 +13,7 @@ ghost use Rattle.file_format.specs.Places.{settings_at};
 ghost use Rattle.file_records.specs.Scalars.{scalars_at};
 
 use books_file::{BooksFile, lists_of};
-use file_words::{behind, count_at, number_at};
+use file_words::{behind, count_at, number_from};
 use primitives::{Scalars, Settings};
 
 // ---- numbers, settings and scalars
@@ -25,7 +25,7 @@ pub fn numbers_at<const N: usize>(rest: &[u8]) -> [u64; N]
 {
     let mut out = [0; N];
     for i in 0..N {
-        out[i] = number_at(behind(rest, i * 3));
+        out[i] = number_from(rest, i * 3);
     }
     out
 }

@@ -15,10 +15,11 @@ use Rattle.lists.specs.Laws.{both, join, and_false, and_true, and_assoc, same_te
 use Rattle.file_format.specs.Words.{words, payload, is_word, wrapping_sum}
 use Rattle.file_format.specs.Fields.{Format, number, flag, field, field_ok, is_three_bytes, second, third, many}
 use Rattle.file_format.specs.File.{ends}
+use Rattle.file_format.specs.Places.{number_at}
 use Rattle.file_format.proofs.AccessLaws.{Fixed, fixed_at, fixed_number, fixed_numbers}
 use Rattle.file_format.proofs.AccessLaws.{get_d_at}
 use Rattle.file_format.proofs.AccessLaws.{many_step}
-use Rattle.file_format.proofs.PlacesLaws.{length_words, word_at, sum_step}
+use Rattle.file_format.proofs.PlacesLaws.{length_words, word_at, sum_step, number_words_at}
 
 -- ---- a word
 
@@ -111,6 +112,23 @@ pub number_made : (ws : List ℕ) (low middle top r : ℕ) → low ≡ slice_ind
     → r ≡ number.value ws
 unfolding number
 number_made ws low middle top r p q t e = e ∙ (λ j. payload (p j) + payload (q j) * 2 ^ 28 + payload (t j) * 2 ^ 56)
+
+-- the same of a number that begins at word k
+pub number_inside_at : (bs : List ℕ) (k : ℕ) → number.ok (drop k (words bs)) ≡ true → k + 3 ≤ length bs / 4
+number_inside_at bs k e =
+    omega (arith, fixed_number.long (drop k (words bs)) e, length-drop k (words bs), length_words bs)
+
+pub top_small_at : (ws : List ℕ) (k top : ℕ) → number.ok (drop k ws) ≡ true → top ≡ slice_index ws (k + 2)
+    → top % 2 ^ 28 < 256
+top_small_at ws k top e t = top_small (drop k ws) top e (t ∙ sym (get_or-drop k ws 2 0))
+
+pub number_made_at : (ws : List ℕ) (k low middle top r : ℕ) → low ≡ slice_index ws k → middle ≡ slice_index ws (k + 1)
+    → top ≡ slice_index ws (k + 2) → r ≡ low % 2 ^ 28 + middle % 2 ^ 28 * 2 ^ 28 + top % 2 ^ 28 * 2 ^ 56
+    → r ≡ number_at ws k
+number_made_at ws k low middle top r p q t e =
+    e
+    ∙ (λ j. payload (p j) + payload (q j) * 2 ^ 28 + payload (t j) * 2 ^ 56)
+    ∙ sym (number_words_at ws k)
 
 pub flag_made : (ws : List ℕ) (w : ℕ) → w ≡ slice_index ws 0 → w % 2 ^ 28 ≡ flag.value ws
 unfolding flag

@@ -11,7 +11,7 @@ ghost use Rattle.std.specs.Prelude.{◌≡◌, ◌+◌, ◌*◌, ◌/◌, ◌%�
 ghost use Rattle.file_format.specs.Words.{words, is_word, wrapping_sum};
 ghost use Rattle.file_format.specs.Fields.{number, flag, field, field_ok, many};
 ghost use Rattle.file_format.specs.File.{ends};
-ghost use Rattle.file_format.specs.Places.{count_at};
+ghost use Rattle.file_format.specs.Places.{number_at, count_at};
 
 // ---- words
 
@@ -141,6 +141,23 @@ pub fn number_at(rest: &[u8]) -> u64
     let middle = word_within(rest, 1);
     let top = word_within(rest, 2);
     joined(low % 0x1000_0000, middle % 0x1000_0000, top % 0x1000_0000)
+}
+
+// The number from word k on. Beside `number_at`, since a pass over a file reads six a validator: a slice made for each
+// took a quarter more time.
+pub fn number_from(rest: &[u8], k: usize) -> u64
+    requires there { k + 3 ≤ length rest.now / 4 }
+    requires well_formed { number.ok (drop k (words rest.now)) ≡ true }
+    ensures { result ≡ number_at (words rest.now) k }
+{
+    let lowest = word_within(rest, k);
+    let middle = word_within(rest, k + 1);
+    let top = word_within(rest, k + 2);
+    joined(
+        lowest % 0x1000_0000,
+        middle % 0x1000_0000,
+        top % 0x1000_0000,
+    )
 }
 
 pub fn flag_at(rest: &[u8]) -> u32
