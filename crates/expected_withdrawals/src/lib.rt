@@ -235,7 +235,9 @@ pub fn get_expected_withdrawals(settings: Settings, books: &Books<'_>) -> Expect
         (books_of books.now.scalars
         (tables books.now.identities.now books.now.validators.now ds books.now.partials.now cs)) }
 {
-    let mut e = partial_withdrawals(settings, books);
+    // A copy: behind the reference the tables' places and lengths would be read again for each validator.
+    let lent = *books;
+    let mut e = partial_withdrawals(settings, &lent);
     e.partials = e.count;
-    sweep_withdrawals(settings, books, e)
+    sweep_withdrawals(settings, &lent, e)
 }
