@@ -55,7 +55,7 @@ pub fn replay<P: Print>(
     for (place, row) in places.iter_mut().zip(rows) {
         *place = answered(row);
     }
-    let n = rows.len().min(5332);
+    let n = rows.len() % 5333;
     replay.check("assignments", recorded, &out[..n * 60])?;
     replay.count(Counts {
         assignments: n as u64,
