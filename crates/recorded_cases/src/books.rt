@@ -29,11 +29,12 @@ pub struct Lent<'a> {
     pub consolidations: &'a mut [u64],
 }
 
+// Books in tables that are lent, since each function that holds the tables by value clears and copies 98,568 bytes.
 #[derive(Drop)]
-pub struct Books {
+pub struct Books<'a> {
     pub settings: Settings,
     pub scalars: Scalars,
-    pub tables: Tables,
+    pub tables: &'a mut Tables,
 }
 
 impl Tables {
@@ -72,10 +73,10 @@ impl Tables {
     }
 }
 
-impl Books {
+impl Books<'_> {
     // The books as they are lent to a call that reads them.
     pub fn see(&self) -> books::Books<'_> {
-        let tables = &self.tables;
+        let tables = &*self.tables;
         let room = tables.room.min(512);
         books::Books {
             scalars: self.scalars,

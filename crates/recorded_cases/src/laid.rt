@@ -26,6 +26,12 @@ impl Fields<'_> {
         (self.word() % 0x1000_0000) as usize
     }
 
+    // Goes past n records of so many words. They are not looked at: a count says nothing of how many stand there.
+    fn skip(&mut self, n: usize, words: usize) {
+        let bytes = n.saturating_mul(words).saturating_mul(4);
+        self.0 = &self.0[bytes.min(self.0.len())..];
+    }
+
     fn number(&mut self) -> u64 {
         let low = self.word() % 0x1000_0000;
         let middle = self.word() % 0x1000_0000;
@@ -97,12 +103,14 @@ impl Fields<'_> {
     // The counted validators, and how many they are.
     fn validators(&mut self, identities: &mut [u8], validators: &mut [u64]) -> usize {
         let n = self.count();
-        for i in 0..n {
+        let room = n.min(identities_fit(identities)).min(validators_fit(validators));
+        for i in 0..room {
             let validator = self.validator();
             if i < identities_fit(identities) && i < validators_fit(validators) {
                 push_validator(identities, validators, i, validator);
             }
         }
+        self.skip(n - room, 46);
         n
     }
 
@@ -112,22 +120,19 @@ impl Fields<'_> {
     {
         let n = self.count();
         let (records, _) = table.as_chunks_mut::<W>();
-        let mut records = records.iter_mut();
-        for _ in 0..n {
-            let mut record = [0; W];
-            for word in &mut record {
+        let room = n.min(records.len());
+        for record in &mut records[..room] {
+            for word in record {
                 *word = self.number();
             }
-            if let Some(words) = records.next() {
-                *words = record;
-            }
         }
+        self.skip(n - room, 3 * W);
         n
     }
 }
 
 // Settings, scalars and the four lists.
-pub fn lay(file: &[u8], mut tables: Tables) -> Books {
+pub fn lay<'a>(file: &[u8], tables: &'a mut Tables) -> Books<'a> {
     let mut fields = Fields(file);
     let _head = fields.word();
     let settings = fields.settings();

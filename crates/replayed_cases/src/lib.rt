@@ -8,7 +8,7 @@ mod opened; // the opening and the calls
 mod closing; // the closing books
 mod printed; // the refusal and the table
 
-use recorded_cases::books::{Output, Results};
+use recorded_cases::books::{Output, Results, Tables};
 use recorded_cases::compare::Replay;
 use recorded_cases::container::{Case, Flag};
 use std::io;
@@ -23,7 +23,8 @@ pub fn replay<P: Print>(
     if !case.has(Flag::Library) {
         return Ok(());
     }
-    match opened::answered(case, results) {
+    let mut tables = Tables::new(case.room);
+    match opened::answered(case, &mut tables, results) {
         Ok((books, count)) => {
             printed::table(replay, case, results, count, out)?;
             closing::afterwards(replay, case, &books, out)

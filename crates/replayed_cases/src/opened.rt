@@ -5,7 +5,7 @@ use recorded_cases::container::{Case, Flag, Section};
 use recorded_cases::laid;
 
 // The opening read.
-fn read(opening: &[u8], mut tables: Tables) -> Result<Books, Refusal> {
+fn read<'a>(opening: &[u8], tables: &'a mut Tables) -> Result<Books<'a>, Refusal> {
     let Lent {
         identities,
         validators,
@@ -29,9 +29,8 @@ fn read(opening: &[u8], mut tables: Tables) -> Result<Books, Refusal> {
 }
 
 // The opening read; where it is lent as it is, laid into the tables without a test.
-fn open(case: &Case) -> Result<Books, Refusal> {
+fn open<'a>(case: &Case, tables: &'a mut Tables) -> Result<Books<'a>, Refusal> {
     let opening = case.payload(Section::Opening);
-    let tables = Tables::new(case.room);
     if case.has(Flag::Lent) {
         return Ok(laid::lay(opening, tables));
     }
@@ -66,9 +65,13 @@ fn carry_out(books: &mut Books, calls: &[u8], results: &mut Results) -> Result<u
 
 // The books that the calls leave, and how many calls they were; where steps alone are among them, they are carried out
 // one by one.
-pub fn answered(case: &Case, results: &mut Results) -> Result<(Books, usize), Refusal> {
+pub fn answered<'a>(
+    case: &Case,
+    tables: &'a mut Tables,
+    results: &mut Results,
+) -> Result<(Books<'a>, usize), Refusal> {
     let calls = case.payload(Section::Calls);
-    let mut books = open(case)?;
+    let mut books = open(case, tables)?;
     let count = if case.has(Flag::StepsAlone) {
         single_calls::carry_out(&mut books, calls, results).map_err(|_| Refusal::BrokenFile)?
     } else {

@@ -54,7 +54,8 @@ pub fn check_unchanged<P: Print>(
     books: &Books,
 ) -> io::Result<()> {
     let recorded = case.payload(Section::Closing);
-    let wanted = laid::lay(recorded, Tables::new(books.tables.room()));
+    let mut tables = Tables::new(books.tables.room());
+    let wanted = laid::lay(recorded, &mut tables);
     check_tables(replay, &wanted, books)?;
     check_front(replay, books, recorded)
 }
