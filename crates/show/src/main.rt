@@ -13,7 +13,7 @@ use text::Text;
 // The file at this path; where it cannot be opened, the standard error says why.
 fn show_path(rt: &HostRuntime, path: &str) -> io::Result<()> {
     match fs::open(rt, path) {
-        Ok(opened) => Text::new(rt.alloc(), opened, rt.stdout())?.show(),
+        Ok(opened) => Text::new(opened, rt.stdout()).show(),
         Err(e) => eprintln!(rt; "{path}: {e}"),
     }
 }

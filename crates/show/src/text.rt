@@ -3,30 +3,42 @@ ghost use Rattle.std.specs.Prelude.{◌≤◌};
 
 use crate::shapes::{CALLS, Field, Fields, LISTS, List, SCALARS, SETTINGS, WITHDRAWALS};
 use crate::words::{Fault, Words};
-use std::alloc::Global;
 use std::fs::File;
 use std::io;
-use std::io::{BufWriter, Stdout, Write};
+use std::io::{Stdout, Write};
 
 // Text that waits to be written, and whether it ends within a line.
-// The flag stays beside the writer: it is no answer, but what the writer knows of its last byte.
+// The buffer stays one of its own, no BufWriter: that one writes what waits also where a read has failed, and is taken
+// from the heap, which can fail. The flag stays beside it: it is no answer, but what the writer knows of its last byte.
 #[derive(Drop)]
 struct Lines {
-    to: BufWriter<Stdout>,
+    to: Stdout,
+    buf: [u8; 65536],
+    count: usize,
     within: bool,
 }
 
 impl Write for Lines {
+    // A full buffer is written at once, and then nothing waits.
     fn write(&mut self, buf: &[u8]) -> io::Result<usize> {
-        let n = self.to.write(buf)?;
+        let at = self.count % 65536;
+        let n = buf.len().min(65536 - at);
+        self.buf[at..at + n].copy_from_slice(&buf[..n]);
+        self.count = at + n;
         if let Some(last) = buf[..n].last() {
             self.within = *last != b'\n';
+        }
+        if self.count == 65536 {
+            self.to.write_all(&self.buf)?;
         }
         Ok(n)
     }
 
     fn flush(&mut self) -> io::Result<()> {
-        self.to.flush()
+        let n = self.count % 65536;
+        self.to.write_all(&self.buf[..n])?;
+        self.count = 0;
+        Ok(())
     }
 }
 
@@ -37,14 +49,16 @@ pub struct Text {
 }
 
 impl Text {
-    pub fn new(alloc: Global, file: File, to: Stdout) -> io::Result<Text> {
-        Ok(Text {
+    pub fn new(file: File, to: Stdout) -> Text {
+        Text {
             words: Words::new(file),
             out: Lines {
-                to: BufWriter::with_capacity(alloc, 65536, to)?,
+                to,
+                buf: [0; 65536],
+                count: 0,
                 within: false,
             },
-        })
+        }
     }
 
     // The next three bytes, of which the first n belong to the field; the others are zero.
