@@ -1,8 +1,10 @@
 -- Loops that store over the front of a list, some elements at a time.
-use Rattle.std.specs.Prelude.{◌≡◌, List, [], ◌∷◌, ◌++◌, ℕ, zero, suc, ◌+◌, ◌-◌, ◌≤◌, ◌<◌, length, get_or, take, drop}
-use Rattle.std.proofs.Common.{refl, ap, ap₂, sym, ◌∙◌, add-zero, add-suc, arith, append_assoc, append-nil}
-use Rattle.std.proofs.Common.{length-append, length-drop, length-take-le}
-use Rattle.std.proofs.lemmas.List.{take_at, drop_at, drop-drop}
+use Rattle.std.specs.Prelude.{◌≡◌, List, [], ◌∷◌, ◌++◌, ℕ, zero, suc, ◌+◌, ◌-◌, ◌≤◌, ◌<◌, length, get_or, set, take}
+use Rattle.std.specs.Prelude.{drop}
+use Rattle.std.proofs.Common.{refl, ap, ap₂, sym, ◌∙◌, add-zero, add-one, add-suc, arith, append_assoc, append-nil}
+use Rattle.std.proofs.Common.{length-append, length-set, length-drop, length-take-le, drop-cons}
+use Rattle.std.proofs.Math.Seq.{append_snoc}
+use Rattle.std.proofs.lemmas.List.{set_at, take_at, drop_at, drop-drop}
 use borrow.Rule.Slice.PartMut.{put_mid}
 use Rattle.tables.specs.Rows.{rows, length_rows, rows_ext, rows_getD, rows_snoc}
 
@@ -60,3 +62,28 @@ module _ {l : List ℕ} {g : ℕ → ℕ} where
           ∙ ap (λ b. rows j g ++ (xs ++ b)) past
           ∙ sym (append_assoc (rows j g) xs (drop e l))
           ∙ ap (λ a. a ++ drop e l) (sym front))
+
+  -- one more element
+  pub front_more : {j : ℕ} {m : List ℕ} {x : ℕ} → j < length l → x ≡ g j → Front l g j m
+      → Front l g (j + 1) (set m j x)
+  front_more {j} {m} {x} h e p = record {
+    size = length-set m j x ∙ p.size;
+    words = rw add-one
+        (ap (λ q. set q j x) (p.words ∙ ap (λ q. rows j g ++ q) (drop-cons l j 0 h))
+        ∙ set_at (rows j g) (get_or l j 0) (drop (suc j) l) x j (length_rows j g)
+        ∙ ap (λ y. rows j g ++ y ∷ drop (suc j) l) e
+        ∙ sym (append_snoc (rows j g) (g j) (drop (suc j) l))
+        ∙ ap (λ q. q ++ drop (suc j) l) (sym (rows_snoc j g)));
+  }
+
+  -- three more, as the numbers of one record
+  pub front_three : {j : ℕ} {m : List ℕ} (f : ℕ → ℕ) → j + 3 ≤ length m → ((k : ℕ) → k < 3 → f k ≡ g (j + k))
+      → Front l g j m → Front l g (j + 3) (set (set (set m j (f 0)) (j + 1) (f 1)) (j + 2) (f 2))
+  front_three {j} {m} f h e p =
+      let one : Front l g (j + 1) (set m j (f 0)) =
+      front_more (omega (arith, p.size)) (e 0 (omega arith) ∙ ap g (add-zero j)) p in
+      let second : j + 1 + 1 ≡ j + 2 = omega arith in
+      let two : Front l g (j + 2) (set (set m j (f 0)) (j + 1) (f 1)) =
+      rw second at (front_more (omega (arith, p.size)) (e 1 (omega arith)) one) in
+      let third : j + 2 + 1 ≡ j + 3 = omega arith in
+      rw third at (front_more (omega (arith, p.size)) (e 2 (omega arith)) two)

@@ -1,12 +1,19 @@
 // Withdrawals as slices: three numbers each (index, validator, amount), and twenty bytes each for their addresses.
 ghost use Rattle.std.specs.Prelude.{◌≡◌, [], ◌∷◌, ◌<◌, ◌≤◌, ◌/◌, leb, length};
 ghost use Rattle.slices.specs.Exported.{fit};
-ghost use Rattle.slices.specs.Withdrawals.{withdrawal_at, withdrawals_in};
+ghost use Rattle.slices.specs.Withdrawals.{address_at, withdrawal_at, withdrawals_in};
 ghost use Rattle.slices.specs.Withdrawals.{with_records, with_addresses};
 
 use expected_withdrawals::Withdrawal;
 use primitives::{Gwei, ValidatorIndex, WithdrawalIndex};
 use std::array;
+
+pub fn address_at(addresses: &[u8], i: usize) -> [u8; 20]
+    requires { i < 16 }
+    ensures { result ≡ address_at addresses.now i }
+{
+    crate::row_at(addresses, 20 * i, 0)
+}
 
 fn withdrawal_at(records: &[u64], addresses: &[u8], i: usize) -> Withdrawal
     requires { i < 16 }
@@ -16,7 +23,7 @@ fn withdrawal_at(records: &[u64], addresses: &[u8], i: usize) -> Withdrawal
     Withdrawal {
         index: WithdrawalIndex(index),
         validator_index: ValidatorIndex(validator as usize),
-        address: crate::row_at(addresses, 20 * i, 0),
+        address: address_at(addresses, i),
         amount: Gwei(amount),
     }
 }

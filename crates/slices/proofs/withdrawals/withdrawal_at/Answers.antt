@@ -4,4 +4,4 @@ use Rattle.slices.proofs.withdrawals.withdrawal_at.Goals as goal
 
 pub returns : goal.returns
 unfolding rows
-returns c = rw (c.row_at.ensures, c.row_at-2.ensures, add-zero)
+returns c = rw (c.row_at.ensures, c.address_at.ensures, add-zero)
