@@ -1,0 +1,5 @@
+use Rattle.file_calls.specs.Laws.{sum_small}
+use Rattle.file_calls.proofs.deposit_receipt.Goals as goal
+
+pub sum_within-sums-requires : goal.sum_within-sums-requires
+sum_within-sums-requires c = sum_small _ _ _ c.requires.accepted c.requires.holds
