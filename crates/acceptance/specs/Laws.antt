@@ -137,18 +137,21 @@ module _ {A : Type 0} (t : A → Bool) (w : A → ℕ) where
         → tested_sum t w (sum + x) (drop (i + 1) (rows n g)) ≡ tested_sum t w start (rows n g)
     tested_more h p x e = rw e (passes sum (g i) (drop (i + 1) (rows n g)) p ∙ at_record h)
 
-    pub tested_stop : i < n → t (g i) ≡ false → None ≡ bounded (tested_sum t w start (rows n g))
-    tested_stop h p =
-        let e =
+    -- a record that fails, and a sum over the bound, each make the tested sum BOUND + 1, which is none
+    pub tested_stop_sum : i < n → t (g i) ≡ false → BOUND + 1 ≡ tested_sum t w start (rows n g)
+    tested_stop_sum h p =
         sym (fails sum (g i ∷ drop (i + 1) (rows n g))
-        (ap (λ b. b && every t (drop (i + 1) (rows n g))) p)) ∙ at_record h in
-        bounded_none (omega (arith, e))
+        (ap (λ b. b && every t (drop (i + 1) (rows n g))) p)) ∙ at_record h
+
+    pub tested_stop : i < n → t (g i) ≡ false → None ≡ bounded (tested_sum t w start (rows n g))
+    tested_stop h p = let e = tested_stop_sum h p in bounded_none (omega (arith, e))
+
+    pub tested_over_sum : i < n → (x : ℕ) → x ≡ w (g i) → BOUND < sum + x → BOUND + 1 ≡ tested_sum t w start (rows n g)
+    tested_over_sum h x e p = sym (over sum (g i ∷ drop (i + 1) (rows n g)) (omega arith)) ∙ at_record h
 
     pub tested_over : i < n → (x : ℕ) → x ≡ w (g i) → BOUND < sum + x
         → None ≡ bounded (tested_sum t w start (rows n g))
-    tested_over h x e p =
-        let f = sym (over sum (g i ∷ drop (i + 1) (rows n g)) (omega arith)) ∙ at_record h in
-        bounded_none (omega (arith, f))
+    tested_over h x e p = let f = tested_over_sum h x e p in bounded_none (omega (arith, f))
 
     pub tested_done : n ≤ i → sum ≤ BOUND → Some (record { 0 = sum }) ≡ bounded (tested_sum t w start (rows n g))
     tested_done h p =
