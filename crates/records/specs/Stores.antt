@@ -48,6 +48,11 @@ pub word_read : (k : ℕ) (ws : List ℕ) (i : ℕ) → i < validators_fit ws
 unfolding word_at
 word_read k ws i h = sym (column_read (validators_fit ws) k ws i h)
 
+-- where word k of validator i stands
+pub word_within : (k : ℕ) (ws : List ℕ) (i : ℕ) → k < 7 → i < validators_fit ws
+    → k * validators_fit ws + i < length ws
+word_within k ws i b h = omega (arith, column_within 7 (validators_fit ws) k i b h)
+
 -- word k of validator i becomes x
 abbrev pub put_word : ℕ → List ℕ → ℕ → ℕ → List ℕ
 put_word k ws i x = set ws (k * validators_fit ws + i) x
