@@ -1,7 +1,7 @@
 -- What a program that carries out the calls of a file goes by: it takes one call after another, as many as the count
 -- says, and each begins where the last one ended. ws are the words of the file; us are those that are left of them.
 use Rattle.std.specs.Prelude.{◌≡◌, true, ◌&&◌, ℕ, suc, ◌+◌, ◌-◌, ◌%◌, ◌≤◌, ◌<◌, length, get_or, drop}
-use Rattle.std.proofs.Common.{sym, ◌∙◌, arith}
+use Rattle.std.proofs.Common.{sym, ◌∙◌, arith, length-drop}
 use Rattle.std.proofs.Math.Path.{ap}
 use mathlib.Core.List.{List, [], ◌∷◌}
 use Rattle.std.proofs.Math.Option.{some}
@@ -14,8 +14,9 @@ use Rattle.file_format.specs.Fields.{many}
 use Rattle.file_format.specs.File.{ends, file_ok, read_file, read_calls}
 use Rattle.file_format.specs.Places.{count_at}
 use Rattle.file_format.specs.Calls.{call, calls_limit, calls_format}
-use Rattle.file_format.proofs.FieldsLaws.{word_only}
+use Rattle.file_format.proofs.FieldsLaws.{word_only, first_word}
 use Rattle.file_format.proofs.AccessLaws.{get_d_at}
+use Rattle.calls_reader.specs.Widths.{longest, next_place, next_rest, next_within, next_near}
 
 -- ---- the file by places: the head at word 0, the count at 1, the calls from 2 on
 
@@ -50,6 +51,7 @@ module _ (ws : List ℕ) where
 pub record GoodCalls (ws : List ℕ) : Type 0 where
   pub most : count_at ws 1 ≤ 9_999
   pub good : (many call (count_at ws 1)).ok (drop 2 ws) ≡ true
+  pub long : 2 ≤ length ws
 
 module _ (bs : List ℕ) (e : file_ok calls_format bs ≡ true) where
   file_parts : calls_format.ok (words bs) ≡ true
@@ -67,12 +69,27 @@ module _ (bs : List ℕ) (e : file_ok calls_format bs ≡ true) where
       let calls_ok = (many call (count_at ws 1)).ok (drop 2 ws) in
       let s = both head (count_ok && calls_ok) (sym (calls_ok_at ws) ∙ file_parts) in
       let t = both count_ok calls_ok s.1 in
-      record { most = omega (arith, (word_only 2 calls_limit (get_or ws 1 0) t.0).0); good = t.1 }
+      let there : is_word 2 calls_limit (get_or (drop 1 ws) 0 0) ≡ true =
+      ap (is_word 2 calls_limit) (get_d_at 1 ws) ∙ t.0 in
+      let one = first_word 2 calls_limit (omega arith) (drop 1 ws) there in
+      record {
+        most = omega (arith, (word_only 2 calls_limit (get_or ws 1 0) t.0).0);
+        good = t.1;
+        long = omega (arith, ap length one, length-drop 1 ws);
+      }
 
   -- what is read are the calls that are taken one by one
   pub calls_read : read_calls bs ≡ some ((many call (count_at (words bs) 1)).value (drop 2 (words bs)))
   unfolding read_file
   calls_read = if_true _ _ _ e ∙ ap some (calls_value_at (words bs))
+
+-- no call is longer than 258 words; from `next` on stands what follows the call
+pub near : (us : List ℕ) (next : ℕ) → call.ok us ≡ true → drop next us ≡ call.rest us → next ≤ length us
+    → next ≤ longest
+near us next g e l =
+    let m = next_place us in
+    let same = ap length (e ∙ sym (next_rest us g)) in
+    omega (arith, same, length-drop next us, length-drop m us, next_within us g, next_near us g)
 
 -- ---- one call after another, in a loop that counts up: us begin with call i of c
 
