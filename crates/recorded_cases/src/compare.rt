@@ -33,7 +33,7 @@ impl fmt::Display for Counts {
 
 // Where the differences are printed, the case that is replayed, its group, the counts of this group and those of the
 // groups before it.
-#[derive(Drop)]
+#[derive_where(Clone, Copy)]
 pub struct Replay<'a, P: Print> {
     to: &'a P,
     case: u32,
