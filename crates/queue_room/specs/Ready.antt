@@ -49,6 +49,11 @@ pub record TurnReady (b : Books) : Type 0 where
   pub deposits_inside : every (deposit_in b.scalars.validators) (lent_deposits b) ≡ true
   pub held_small : total (λ v. v.balance) (lent_validators b) + deposit_amounts (lent_deposits b) ≤ BOUND
 
+-- how many deposits wait, by the settings' own limit
+pub record QueueReady (S : Settings) (s : Scalars) : Type 0 where
+  pub limit_most : S.pending_balance_deposits_limit ≤ 65536
+  pub most : s.deposits ≤ S.pending_balance_deposits_limit
+
 -- carry and allowance together
 pub record AllowanceReady (S : Settings) (s : Scalars) : Type 0 where
   pub carry_small : s.deposit_balance_to_consume.0 ≤ BOUND
@@ -104,3 +109,8 @@ pub allowance_ready : (S : Settings) (s : Scalars) (t : Tables) → SoundSetting
     → SoundBooks (settings_of S) (books_of s t) → AllowanceReady S s
 unfolding books_of
 allowance_ready S s t σ β = record { carry_small = β.carry_small; max_churn = σ.max_churn }
+
+pub queue_ready : (S : Settings) (s : Scalars) (t : Tables) → SoundSettings (settings_of S)
+    → SoundBooks (settings_of S) (books_of s t) → QueueReady S s
+queue_ready S s t σ β =
+    record { limit_most = σ.deposits_limit.most; most = omega (arith, β.deposits_fit, deposits_count s t) }
