@@ -19,6 +19,7 @@ use Rattle.records.specs.Reading.{epoch_read}
 use Rattle.acceptance.specs.Handed.{facts}
 use Rattle.helpers.specs.Ready.{Registry, registry_ready}
 use Rattle.queue_room.specs.Ready.{StepReady, TurnReady, AllowanceReady, step_ready, turn_ready, allowance_ready}
+use Rattle.queue_room.specs.Ready.{QueueReady, queue_ready}
 use Rattle.epoch_processing.specs.Ready.{UpdatesReady, updates_ready}
 use Rattle.result_sizes.specs.Epoch.{deposits_size, consolidations_size, effective_size, turn_size}
 use Rattle.call_answers.specs.Called.{size_refused, call_done}
@@ -99,3 +100,8 @@ turn_known S b h = let f = facts S b.scalars (lent_tables b) h in turn_ready S b
 pub allowance_known : (S : Settings) (s : Scalars) (t : Tables)
     → handed_refusal (settings_of S) (books_of s t) (room_of t) ≡ 0 → AllowanceReady S s
 allowance_known S s t h = let f = facts (settings_of S) s t h in allowance_ready S s t f.settings f.books
+
+-- and how many deposits wait at most
+pub queue_there : (S : Settings) (s : Scalars) (t : Tables)
+    → handed_refusal (settings_of S) (books_of s t) (room_of t) ≡ 0 → QueueReady S s
+queue_there S s t h = let f = facts (settings_of S) s t h in queue_ready S s t f.settings f.books
