@@ -80,7 +80,7 @@ pub record Opens (bs : List ℕ) (r : Room) : Type 0 where
   pub good : file_ok books_format bs ≡ true
   pub accepted : Accepted (settings_at (words bs)) (books_at (words bs)) r
 
-opens : (bs : List ℕ) (r : Room) → read_answer r bs ≡ 0 → Opens bs r
+pub opens : (bs : List ℕ) (r : Room) → read_answer r bs ≡ 0 → Opens bs r
 opens bs r e = go (file_ok books_format bs) refl
   where
     go : (t : Bool) → file_ok books_format bs ≡ t → Opens bs r
@@ -91,7 +91,7 @@ opens bs r e = go (file_ok books_format bs) refl
     go false f = let z : ⊥ = omega (arith, broken_refused bs r f, e) in absurd z
 
 -- the tables have room for the file's records
-room_there : (bs : List ℕ) (t : Tables) {s : Scalars} → Opens bs (room_of t) → s ≡ scalars_at (words bs)
+pub room_there : (bs : List ℕ) (t : Tables) {s : Scalars} → Opens bs (room_of t) → s ≡ scalars_at (words bs)
     → Fits s t
 room_there bs t {s} o e =
     let ws = words bs in
