@@ -1,5 +1,5 @@
 -- The answer of carrying out a file by where it comes from: the books, the file, the room in the results, or none.
-use Rattle.std.specs.Prelude.{◌≡◌, true, false, List, ℕ, ◌*◌, ◌/◌, ◌≤◌, ◌<◌, length, drop}
+use Rattle.std.specs.Prelude.{◌≡◌, refl, true, false, List, ℕ, ◌*◌, ◌/◌, ◌≤◌, ◌<◌, length, drop}
 use Rattle.std.proofs.Math.Path.{sym, ap}
 use Rattle.std.proofs.Common.{◌∙◌, arith, ne_eqb, lt-ltb, le-ltb}
 use Rattle.std.proofs.Math.Option.{some}
@@ -15,7 +15,7 @@ use Rattle.file_format.specs.Places.{count_at}
 use Rattle.file_format.specs.Calls.{calls_format}
 use Rattle.calls_reader.specs.Calls.{good_calls, calls_read}
 use Rattle.file_calls.specs.Ready.{Accepted, Holds}
-use Rattle.runs.specs.Promise.{listed_answer, carry_out_answer}
+use Rattle.runs.specs.Promise.{listed_answer, carry_out_answer, Done, CarriedOut}
 use Rattle.runs.specs.Ready.{operations_there}
 use Rattle.runs.specs.Judged.{Runnable}
 use Rattle.runs.specs.Steps.{many_size}
@@ -71,3 +71,26 @@ module _ (S : rule.Settings) (s : Scalars) (t : Tables) (file : List ℕ) where
             read = read;
             room = omega arith;
           }
+
+  -- ---- what was judged, carried out
+
+  module _ {before : List ℕ} where
+    pub nothing_done : {n : ℕ} → n ≡ answer (length before) → (n ≡ 0 → ⊥)
+        → CarriedOut S s t t file before before n s 0
+    nothing_done e z = record {
+      number = e;
+      done = λ os d r. absurd (z d);
+      refused = λ y. (refl, (refl, (refl, refl)));
+    }
+
+    pub all_done : {held count : ℕ} → 0 ≡ answer (length before) → Runnable S s t file (length before) held count
+        → {u : Tables} {after : List ℕ} {r : Scalars}
+        → Done S s t u (operations_there (drop 2 (words file)) count) before after r count
+        → CarriedOut S s t u file before after 0 r count
+    all_done {held} {count} e j d = record {
+      number = e;
+      done = λ os z q.
+          let same : operations_there (drop 2 (words file)) count ≡ os = cc (j.read, q) in
+          rw same at d;
+      refused = λ z. absurd (z refl);
+    }

@@ -24,6 +24,15 @@ calls_on t os = map (call_on t) os
 
 -- ---- lengths
 
+pub sizes_none : (t : Tables) → SameSizes t t
+sizes_none t = record {
+  identities = refl;
+  validators = refl;
+  deposits = refl;
+  partials = refl;
+  consolidations = refl;
+}
+
 pub sizes_then : {t u w : Tables} → SameSizes w u → SameSizes u t → SameSizes w t
 sizes_then f g = record {
   identities = f.identities ∙ g.identities;

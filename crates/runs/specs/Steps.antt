@@ -3,6 +3,7 @@ use Rattle.std.specs.Prelude.{◌≡◌, refl, true, List, [], ◌∷◌, ◌++�
 use Rattle.std.specs.Prelude.{take, drop, set}
 use Rattle.std.proofs.Common.{sym, ap, ◌∙◌, append_assoc, append-nil, arith, length-set, take-append-drop}
 use Rattle.std.proofs.Common.{drop-drop, drop-set-lt, take-suc-set}
+use Rattle.std.proofs.Math.Nat.{sub-zero}
 use Rattle.std.proofs.lemmas.List.{length-map}
 use Rattle.rules.specs.Types as rule
 use Rattle.rules.specs.Acceptance.{held}
@@ -18,7 +19,7 @@ use Rattle.file_format.specs.Calls.{written, call}
 use Rattle.calls_reader.specs.Calls.{call_i_good, calls_good_behind, calls_left_behind, no_calls_left}
 use Rattle.table_text.specs.Lines.{lines_words}
 use Rattle.runs.specs.Lines.{lines, with_line, lines_length, lines_words_length}
-use Rattle.runs.specs.InPlace.{InPlace, none, next, calls_on, sizes_then, same_room}
+use Rattle.runs.specs.InPlace.{InPlace, none, next, calls_on, sizes_none, sizes_then, same_room}
 use Rattle.file_calls.specs.Ready.{Accepted}
 use Rattle.runs.specs.Ready.{CallsThere, operations_there, Written}
 use Rattle.runs.specs.Promise.{Done}
@@ -95,6 +96,17 @@ pub record Running (S : rule.Settings) (s₀ : Scalars) (t₀ : Tables) (os : Li
       ≡ lines_words (lines S (books_of s₀ t₀) (calls_on t₀ os))
   pub past : drop (3 * i) results ≡ drop (3 * i) before
   pub long : length results ≡ length before
+
+pub running_none : {S : rule.Settings} {s : Scalars} {t : Tables} (os : List Operation) (before : List ℕ)
+    → Accepted S s t → Running S s t os before s t os before 0
+running_none {S} {s} {t} os before h = record {
+  chain = λ r u c. c;
+  sizes = sizes_none t;
+  accepted = h;
+  lines = refl;
+  past = refl;
+  long = refl;
+}
 
 module _ {S : rule.Settings} {s₀ : Scalars} {t₀ : Tables} {os : List Operation} {before : List ℕ} {s : Scalars}
     {t : Tables} {results : List ℕ} {i : ℕ} where
@@ -178,17 +190,27 @@ pub record Carrying (S : rule.Settings) (s₀ : Scalars) (t₀ : Tables) (us : L
   pub good : CallsThere vs (n - i)
   pub most : i ≤ n
 
+pub carrying_none : {S : rule.Settings} {s : Scalars} {t : Tables} {us before : List ℕ} {n : ℕ} → Accepted S s t
+    → CallsThere us n → Carrying S s t us n before s t us 0 before
+carrying_none {S} {s} {t} {us} {before} {n} h c = record {
+  running = rw sub-zero (running_none (operations_there us n) before h);
+  good = rw sub-zero c;
+  most = omega arith;
+}
+
 module _ {S : rule.Settings} {s₀ : Scalars} {t₀ : Tables} {us : List ℕ} {n : ℕ} {before : List ℕ} {s : Scalars}
     {t : Tables} {vs : List ℕ} {i : ℕ} {results : List ℕ} (inv : Carrying S s₀ t₀ us n before s t vs i results) where
   pub carrying_call : i < n → call.ok vs ≡ true
   carrying_call l = call_i_good vs n i l inv.good
 
+  pub carrying_room : i < n → 3 * n ≤ length before → 3 * i + 3 ≤ length results
+  carrying_room l h = omega (arith, inv.running.long)
+
   pub carrying_more : {u : Tables} {new : List ℕ} {r : Scalars} {behind : List ℕ} → i < n → 3 * n ≤ length before
       → Written S (call.value vs) s t u results new i r → SameSizes u t → behind ≡ call.rest vs
       → Carrying S s₀ t₀ us n before r u behind (i + 1) new
   carrying_more {behind = behind} l h w z e = record {
-    running =
-        running_more (rw (calls_left_behind vs n i l behind e) at inv.running) w z (omega (arith, inv.running.long));
+    running = running_more (rw (calls_left_behind vs n i l behind e) at inv.running) w z (carrying_room l h);
     good = calls_good_behind vs n i l behind e inv.good;
     most = omega arith;
   }

@@ -211,16 +211,24 @@ module _ {S : Settings} {op : Operation} {s r : Scalars} {t u : Tables} {n : ℕ
 
 -- ---- the sum after the call of a file, by its kind
 
-module _ {op : Operation} {n sum taken waiting left anew : ℕ} (f : Followed op n sum taken waiting left anew) where
-  pub refused_after : (n ≡ 0 → ⊥) → sum ≡ anew
+module _ (op : Operation) (n sum taken waiting left anew : ℕ) where
+  pub sum_refused : (n ≡ 0 → ⊥) → sum ≡ sum_after op n sum taken waiting left anew
   unfolding sum_after
-  refused_after z = sym (if_false _ _ _ (ne_eqb n 0 z)) ∙ f.after
+  sum_refused z = sym (if_false _ _ _ (ne_eqb n 0 z))
 
   -- `o` is the same operation, given in another way
-  pub as_after : (o : Operation) → o ≡ op → n ≡ 0 → done_sum o sum taken waiting left anew ≡ anew
+  pub sum_as : (o : Operation) → o ≡ op → n ≡ 0 → {x : ℕ} → x ≡ done_sum o sum taken waiting left anew
+      → x ≡ sum_after op n sum taken waiting left anew
   unfolding sum_after
-  as_after o e z =
-      ap (λ i. done_sum i sum taken waiting left anew) e ∙ sym (if_true _ _ _ (eq-eqb n 0 z)) ∙ f.after
+  sum_as o e z {x} q =
+      q ∙ ap (λ i. done_sum i sum taken waiting left anew) e ∙ sym (if_true _ _ _ (eq-eqb n 0 z))
+
+module _ {op : Operation} {n sum taken waiting left anew : ℕ} (f : Followed op n sum taken waiting left anew) where
+  pub refused_after : (n ≡ 0 → ⊥) → sum ≡ anew
+  refused_after z = sum_refused op n sum taken waiting left anew z ∙ f.after
+
+  pub as_after : (o : Operation) → o ≡ op → n ≡ 0 → done_sum o sum taken waiting left anew ≡ anew
+  as_after o e z = sum_as op n sum taken waiting left anew o e z refl ∙ f.after
 
   -- a receipt
   module _ {public_key withdrawal_credentials : List ℕ} {amount index : ℕ} {valid : Bool}
@@ -257,11 +265,18 @@ no_penalty kind.Withdrawals us a b = refl
 
 -- us are the words of a call, from its code on
 module _ (us : List ℕ) {k : Kind} (e : kind_code k ≡ code_of us) where
+  pub steady_sum_after : (k ≡ kind.Reward → ⊥) → (k ≡ kind.Penalty → ⊥) → (k ≡ kind.DepositReceipt → ⊥)
+      → (k ≡ kind.Withdrawals → ⊥) → (n sum taken waiting left anew : ℕ) → n ≡ 0
+      → sum ≡ sum_after (call.value us) n sum taken waiting left anew
+  steady_sum_after a b c d n sum taken waiting left anew z =
+      sum_as (call.value us) n sum taken waiting left anew _ (of_code us (kind_code k) (sym e)) z
+      (steady_sum k (drop 1 us) a b c d sum taken waiting left anew)
+
   pub steady_after : (k ≡ kind.Reward → ⊥) → (k ≡ kind.Penalty → ⊥) → (k ≡ kind.DepositReceipt → ⊥)
       → (k ≡ kind.Withdrawals → ⊥) → {n sum taken waiting left anew : ℕ}
       → Followed (call.value us) n sum taken waiting left anew → n ≡ 0 → sum ≡ anew
   steady_after a b c d {n} {sum} {taken} {waiting} {left} {anew} f z =
-      steady_sum k (drop 1 us) a b c d sum taken waiting left anew ∙ as_after f _ (of_code us (kind_code k) (sym e)) z
+      steady_sum_after a b c d n sum taken waiting left anew z ∙ f.after
 
   pub other_taken : (k ≡ kind.Penalty → ⊥) → (b : Books) → 0 ≡ penalty_taken (call.value us) b
   other_taken h b =
