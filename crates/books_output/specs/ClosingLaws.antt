@@ -1,9 +1,10 @@
 -- The facts that the closing books are proved by.
-use Rattle.std.specs.Prelude.{◌≡◌, refl, List, ℕ, ◌≤◌, take, drop, Result, Ok, Err, IfOk}
+use Rattle.std.specs.Prelude.{◌≡◌, refl, Bool, true, false, List, ℕ, ◌≤◌, take, drop, eqb, Result, Ok, Err, IfOk}
 use Rattle.std.proofs.Math.Path.{sym, ap}
-use Rattle.std.proofs.Common.{◌∙◌, arith, length-append, length-take-le}
+use Rattle.std.proofs.Common.{◌∙◌, arith, length-append, length-take-le, eqb-true}
 use Rattle.std.proofs.Math.ListN.{length}
 use Rattle.std.proofs.Math.Dec.{ltb}
+use Rattle.std.proofs.lemmas.Bool.{eqb-false}
 use Rattle.lists.specs.Base.{when◌then◌else◌}
 use Rattle.rules.specs.Types as rule
 use Rattle.rules.specs.Calls.{Room, handed_refusal}
@@ -26,14 +27,18 @@ unfolding write_answer when◌then◌else◌
 write_accepted S b r space h = rw h
 
 module _ {opening calls before : List ℕ} where
-  pub closing_refused : (e : Refusal) → files opening calls ≡ refused (refusal_number e)
-      → ClosingWritten opening calls before before (refusal_number e) 0
+  pub closing_refused_number : {n : ℕ} → (n ≡ 0 → ⊥) → files opening calls ≡ refused n
+      → ClosingWritten opening calls before before n 0
   unfolding closing_answer
-  closing_refused e f = record {
+  closing_refused_number z f = record {
     number = sym (ap (λ f. closing_number f (length before)) f);
-    done = λ d. absurd (refusal_not_0 e d);
+    done = λ d. absurd (z d);
     refused = λ _. (refl, refl);
   }
+
+  pub closing_refused : (e : Refusal) → files opening calls ≡ refused (refusal_number e)
+      → ClosingWritten opening calls before before (refusal_number e) 0
+  closing_refused e f = closing_refused_number (refusal_not_0 e) f
 
   pub closing_done : {u : Tables} {results : List ℕ} {c : Closing} {after : List ℕ} {n size : ℕ}
       → Done (files opening calls) u results c
@@ -56,13 +61,25 @@ module _ {opening calls before : List ℕ} where
         refused = w.refused;
       }
 
-  -- the file stands in the buffer
+  -- the file stands in the buffer, whatever the number
+  module _ {after : List ℕ} {n size : ℕ} (w : ClosingWritten opening calls before after n size) where
+    pub size_within : size ≤ length after
+    size_within = go (eqb n 0) refl
+      where
+        go : (t : Bool) → eqb n 0 ≡ t → size ≤ length after
+        go true e =
+            let y = w.done (eqb-true n 0 e) in
+            let file = closing opening calls in
+            omega (arith, y.0, ap length y.1, length-append file (drop (length file) before))
+        go false e = omega (arith, (w.refused (eqb-false n 0 e)).0)
+
+    pub closing_part : size ≡ length (take size after)
+    closing_part = sym (length-take-le size after size_within)
+
+  -- and so it does where a size is answered
   pub closing_within : {after : List ℕ} (r : Result ℕ Refusal)
       → ClosingWritten opening calls before after (answer_number r) (answer_or 0 r) → IfOk r (λ n. n ≤ length after)
-  closing_within (Ok n) w =
-      let y = w.done refl in
-      let file = closing opening calls in
-      omega (arith, y.0, ap length y.1, length-append file (drop (length file) before))
+  closing_within (Ok n) w = size_within w
   closing_within (Err _) w = tt
 
 pub part_there : (after : List ℕ) (r : Result ℕ Refusal) → IfOk r (λ n. n ≤ length after)
