@@ -1,5 +1,5 @@
 // The amounts that a table holds, each of a record that passes its tests, and their sum in one pass.
-ghost use Rattle.std.specs.Prelude.{◌≡◌, true, false, ◌<◌, ◌≤◌, ℕ, List, [], Bool, MatchOption};
+ghost use Rattle.std.specs.Prelude.{◌≡◌, ◌<◌, ◌≤◌, ℕ, List, [], Bool};
 ghost use Rattle.tables.specs.Rows.{rows};
 ghost use Rattle.rules.specs.Types as rule;
 ghost use Rattle.rules.specs.Acceptance.{deposit_in};
@@ -25,12 +25,15 @@ pub trait Amounts: Copy {
 
     ghost amount: { Plain → ℕ };
 
-    // The amount of record i; None where it fails its tests.
-    fn amount_at(self, table: &[u64], i: usize) -> Option<Gwei>
+    // Whether record i passes its tests, and its amount: two answers, since an Option of the amount made the tests of
+    // small books take 1.4 times as long.
+    fn is_within(self, table: &[u64], i: usize) -> bool
         requires { i < fit table.now }
-        ensures { let x = record_at table.now i in
-            MatchOption result (within self x ≡ false)
-            (λ a. (within self x ≡ true) × (a.0 ≡ amount x)) };
+        ensures { result ≡ within self (record_at table.now i) };
+
+    fn amount_at(self, table: &[u64], i: usize) -> Gwei
+        requires { i < fit table.now }
+        ensures { result.0 ≡ amount (record_at table.now i) };
 }
 
 // ---- the three tables
@@ -53,10 +56,12 @@ impl Amounts for Balances {
 
     ghost amount = { λ v. v.balance };
 
-    fn amount_at(self, table: &[u64], i: usize) -> Option<Gwei> {
-        let i = ValidatorIndex(i);
-        let balance = registry::balance_at(table, i);
-        validator_within(self.most, table, i).then_some(balance)
+    fn is_within(self, table: &[u64], i: usize) -> bool {
+        validator_within(self.most, table, ValidatorIndex(i))
+    }
+
+    fn amount_at(self, table: &[u64], i: usize) -> Gwei {
+        registry::balance_at(table, ValidatorIndex(i))
     }
 }
 
@@ -77,9 +82,14 @@ impl Amounts for Deposits {
 
     ghost amount = { λ d. d.amount };
 
-    fn amount_at(self, table: &[u64], i: usize) -> Option<Gwei> {
+    fn is_within(self, table: &[u64], i: usize) -> bool {
         let deposit: PendingBalanceDeposit = queues::entry_at(table, i);
-        (deposit.index.0 < self.validators).then_some(deposit.amount)
+        deposit.index.0 < self.validators
+    }
+
+    fn amount_at(self, table: &[u64], i: usize) -> Gwei {
+        let deposit: PendingBalanceDeposit = queues::entry_at(table, i);
+        deposit.amount
     }
 }
 
@@ -100,9 +110,14 @@ impl Amounts for Partials {
 
     ghost amount = { λ p. p.amount };
 
-    fn amount_at(self, table: &[u64], i: usize) -> Option<Gwei> {
+    fn is_within(self, table: &[u64], i: usize) -> bool {
         let partial: PendingPartialWithdrawal = queues::entry_at(table, i);
-        partial_within(partial, self.validators).then_some(partial.amount)
+        partial_within(partial, self.validators)
+    }
+
+    fn amount_at(self, table: &[u64], i: usize) -> Gwei {
+        let partial: PendingPartialWithdrawal = queues::entry_at(table, i);
+        partial.amount
     }
 }
 
@@ -116,7 +131,11 @@ pub fn sum<A: Amounts>(amounts: A, start: Gwei, table: &[u64], m: usize) -> Opti
 {
     let mut sum = start.0;
     for i in 0..m {
-        let amount = amounts.amount_at(table, i)?;
+        let within = amounts.is_within(table, i);
+        if !within {
+            return None;
+        }
+        let amount = amounts.amount_at(table, i);
         if amount.0 > BOUND - sum {
             return None;
         }
