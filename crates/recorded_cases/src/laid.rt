@@ -103,7 +103,9 @@ impl Fields<'_> {
     // The counted validators, and how many they are.
     fn validators(&mut self, identities: &mut [u8], validators: &mut [u64]) -> usize {
         let n = self.count();
-        let room = n.min(identities_fit(identities)).min(validators_fit(validators));
+        let room = n
+            .min(identities_fit(identities))
+            .min(validators_fit(validators));
         for i in 0..room {
             let validator = self.validator();
             if i < identities_fit(identities) && i < validators_fit(validators) {
