@@ -6,6 +6,8 @@ pub mod amounts; // the sum of amounts that are tested
 pub mod passes; // one pass over each table
 pub mod quick; // one pass over the bits of all validators
 pub mod record; // the tests of one record
+#[cfg(test)]
+mod tests;
 
 ghost use Rattle.std.specs.Prelude.{◌≡◌, ℕ, ◌+◌, ◌≤◌, true, List, nat_le};
 ghost use Rattle.rules.specs.Types as rule;
@@ -122,13 +124,13 @@ pub fn books_held(settings: Settings, books: &Books<'_>) -> Option<Gwei>
     let n = scalars.validators;
     let most = settings.max_effective_balance_electra;
     let balances = passes::validators_sum(most, books.validators, n)?;
-    let held = amounts::sum(
+    let held = amounts::tested_sum(
         Deposits { validators: n },
         balances,
         books.deposits,
         scalars.deposits,
     )?;
-    amounts::sum(
+    amounts::tested_sum(
         Partials { validators: n },
         Gwei(0),
         books.partials,

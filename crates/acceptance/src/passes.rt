@@ -29,7 +29,7 @@ pub fn validators_sum(most: Gwei, validators: &[u64], n: usize) -> Option<Gwei>
             return Some(sum);
         }
     }
-    amounts::sum(Balances { most }, Gwei(0), validators, n)
+    amounts::tested_sum(Balances { most }, Gwei(0), validators, n)
 }
 
 // Whether the first m consolidations are of validators below n.

@@ -33,8 +33,8 @@ returns-in_err-balances c =
     (balances_refused (settings_of c.args.settings) b.scalars (lent_tables b) _ refl
     (bounded_over (c.in_err-balances.ensures b.identities.now))))
 
-pub sum-requires : goal.sum-requires
-sum-requires c =
+pub tested_sum-requires : goal.tested_sum-requires
+tested_sum-requires c =
     let b = c.args.books.now in
     let counts : ScalarsWithin (settings_of c.args.settings) b.scalars =
     within _ _ (sym c.scalars_within.ensures ∙ c.if-not-scalars_within.false) in
@@ -49,21 +49,21 @@ returns-in_err-held c =
     (held_refused (settings_of c.args.settings) b.scalars (lent_tables b) _ _
     (bounded_is (c.in_ok-balances.ensures b.identities.now)).0 refl (bounded_over c.in_err-held.ensures)))
 
-pub sum-requires-2 : goal.sum-requires-2
-sum-requires-2 c =
+pub tested_sum-requires-2 : goal.tested_sum-requires-2
+tested_sum-requires-2 c =
     let b = c.args.books.now in
     let counts : ScalarsWithin (settings_of c.args.settings) b.scalars =
     within _ _ (sym c.scalars_within.ensures ∙ c.if-not-scalars_within.false) in
     let space : EnoughRoom (settings_of c.args.settings) (lent_tables b) = room _ _ c.requires in
     (omega arith, omega (arith, counts, space))
 
-pub returns-in_err-sum : goal.returns-in_err-sum
-returns-in_err-sum c =
-    let e : c.from_residual-in_err-sum.result ≡ None = search rules in
+pub returns-in_err-tested_sum : goal.returns-in_err-tested_sum
+returns-in_err-tested_sum c =
+    let e : c.from_residual-in_err-tested_sum.result ≡ None = search rules in
     let b = c.args.books.now in
     rw e (none_held _ _
     (partials_refused (settings_of c.args.settings) b.scalars (lent_tables b) _ refl
-    (bounded_over c.in_err-sum.ensures)))
+    (bounded_over c.in_err-tested_sum.ensures)))
 
 pub consolidations_in-requires : goal.consolidations_in-requires
 consolidations_in-requires c =
@@ -78,7 +78,7 @@ returns-then-not-consolidations_in c =
     let b = c.args.books.now in
     let v = bounded_is (c.in_ok-balances.ensures b.identities.now) in
     let d = bounded_is c.in_ok-held.ensures in
-    let p = bounded_is c.in_ok-sum.ensures in
+    let p = bounded_is c.in_ok-tested_sum.ensures in
     none_held _ _
     (sym c.if-not-consolidations_in.true
     ∙ consolidations_decide (settings_of c.args.settings) b.scalars (lent_tables b) _ _ _ _
@@ -91,7 +91,7 @@ returns c =
     let S = settings_of c.args.settings in
     let v = bounded_is (c.in_ok-balances.ensures b.identities.now) in
     let d = bounded_is c.in_ok-held.ensures in
-    let p = bounded_is c.in_ok-sum.ensures in
+    let p = bounded_is c.in_ok-tested_sum.ensures in
     some_held _ _
     (sym c.if-not-consolidations_in.false
     ∙ consolidations_decide S b.scalars (lent_tables b) _ _ _ _

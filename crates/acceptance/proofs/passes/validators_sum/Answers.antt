@@ -6,4 +6,4 @@ use Rattle.acceptance.proofs.passes.validators_sum.Goals as goal
 pub returns : goal.returns
 returns c ids =
     let a = c.args in
-    c.sum.ensures ∙ ap bounded (balances_ext a.most.0 a.validators.now a.n ids)
+    c.tested_sum.ensures ∙ ap bounded (balances_ext a.most.0 a.validators.now a.n ids)
