@@ -60,4 +60,6 @@ fn partials_from_so_many_validators(rt: HostRuntime) {
     let of_three = Partials { validators: 3 };
     assert_eq!(rt; of_three.amount_at(&PARTIALS, 1), Some(Gwei(4)));
     assert_eq!(rt; sum(of_three, Gwei(0), &PARTIALS, 2), Some(Gwei(7)));
+    let of_one = Partials { validators: 1 };
+    assert_eq!(rt; of_one.amount_at(&PARTIALS, 1), None);
 }

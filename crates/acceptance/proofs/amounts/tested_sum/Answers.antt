@@ -7,7 +7,8 @@ use Rattle.acceptance.proofs.amounts.tested_sum.Goals as goal
 pub returns-then-not-within : goal.returns-then-not-within
 returns-then-not-within g c =
     let l = c.loop-i in
-    tested_stop _ _ _ _ l.i l.sum _ l.invariant.left (omega arith) (sym c.is_within-within.ensures ∙ c.if-not-within.true)
+    tested_stop _ _ _ _ l.i l.sum _ l.invariant.left (omega arith)
+    (sym c.is_within-within.ensures ∙ c.if-not-within.true)
 
 pub returns-then-amount-sum : goal.returns-then-amount-sum
 returns-then-amount-sum g c =
